@@ -1,6 +1,6 @@
 -- Which counts of faults have changed.
-use Rattle.std.proofs.Common.{◌≡◌, ℕ, List, length, inl, inr, refl, sym, ap, ◌∙◌, subst, ⊎_elim}
-use Rattle.std.specs.Prelude.{◌≢◌, ◌⊎◌}
+use Rattle.std.proofs.Common.{◌≡◌, ℕ, ◌≤◌, List, length, inl, inr, refl, sym, ap, ◌∙◌, subst, arith, ⊎_elim}
+use Rattle.std.specs.Prelude.{◌≢◌, ◌⊎◌, Err, IfErr, Result}
 use Rattle.std.proofs.lemmas.Bool.{cases_eq}
 use Rattle.xsk_io.specs.Bay.{CountsOnly, Grows, GrowsByPart, Moment, Rose, Same}
 use Rattle.xsk_io.proofs.Steps.{IsOffered-earlier, Rose-earlier, Rose-later}
@@ -58,6 +58,23 @@ unchanged_then old mid new first second kind stream = second kind stream ∙ fir
 
 pub no_others_then : (old mid new : Kind → Stream → ℕ) (status : Status) → Unchanged old mid → NoOthers mid new status → NoOthers old new status
 no_others_then old mid new status first second kind stream other = second kind stream other ∙ first kind stream
+
+-- no count falls by a call that lets its own not fall
+pub never_falls_by : (kind : Kind) (stream : Stream) (old new : Kind → Stream → ℕ) → CountsOnly kind stream old new → old kind stream ≤ new kind stream → NeverFalls old new
+never_falls_by kind stream old new counts low k s = ⊎_elim
+    (λ (e : k ≡ kind). ⊎_elim
+    (λ (i : s ≡ stream). subst (λ j. old j s ≤ new j s) (sym e) (subst (λ t. old kind t ≤ new kind t) (sym i) low))
+    (λ (ni : s ≢ stream). omega (arith, but_its_own kind stream old new counts k s (λ h. ni h.1)))
+    (same_stream stream s))
+    (λ (ne : k ≢ kind). omega (arith, but_its_own kind stream old new counts k s (λ h. ne h.0)))
+    (same_kind kind k)
+
+pub never_falls_then : (old mid new : Kind → Stream → ℕ) → NeverFalls old mid → NeverFalls mid new → NeverFalls old new
+never_falls_then old mid new first second kind stream = omega (arith, first kind stream, second kind stream)
+
+-- an answer with such a failure
+pub err_is : {A E : Type 0} (P : E → Type 0) (answer : Result A E) (failure : E) → answer ≡ Err failure → P failure → IfErr answer P
+err_is P answer failure is met = subst (λ r. IfErr r P) (sym is) met
 
 -- ---- and then the line of a refusal
 

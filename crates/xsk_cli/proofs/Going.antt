@@ -8,7 +8,7 @@ use Rattle.std.proofs.Math.Nat.{mod-lt, mul_assoc, mul-div_cancel_left}
 use Rattle.std.proofs.Math.ListN.{get_or-map}
 use Rattle.xsk_umem.specs.PacketList.{PacketList}
 use Rattle.xsk_model.specs.Config.{Config, pair_at, classes_of, map_of}
-use Rattle.xsk_model.specs.Steering.{packet_class, packet_limit, packet_queue, paired_port, driver_on, socket_on}
+use Rattle.xsk_model.specs.Steering.{packet_class, packet_limit, paired_port, driver_on, socket_on}
 use Rattle.xsk_model.proofs.Seats.{IsAt, below, is_at}
 use Rattle.xsk_prog.specs.declared.rule.Rule.{Rule}
 use Rattle.xsk_prog.specs.Rules.{MeetsChain, is_exact, are_exact, chain_verdict_of}
@@ -34,7 +34,7 @@ use Rattle.xsk_socket.proofs.Accepted.{fits}
 use Rattle.xsk_socket.proofs.Numbered.{get_or-numbered, length-numbered}
 use Rattle.xsk_socket.proofs.Regularity.{regular-config, regular-regular}
 use Rattle.xsk_cli.specs.Outcome.{listed, rule_by, rules_by, verdicts_by, received_on, goes_on, going_on, goes_back, ExpectedGoesOn, ClassGoesOn, AllGoOn, BouncedGoesBack, NoneBounces, AllGoBack}
-use Rattle.xsk_laws.proofs.OneQueue.{bytes_if}
+use Rattle.xsk_laws.proofs.OneQueue.{all_of_queue, bytes_if}
 
 -- ---- verdicts
 
@@ -220,13 +220,6 @@ class_goes_on layout lists port queue class empty in_ports in_queues in_sockets 
     filter (λ packet. class_goes layout port queue class empty in_ports in_queues in_sockets packet i) (received_on layout lists port queue)
 
 -- ---- one queue and one socket
-
--- of one queue are all packets
-all_of_queue : (queues : ℕ) (ps : List (List ℕ)) → queues ≡ 1 → packets_of_queue queues 0 ps ≡ ps
-all_of_queue queues [] one = refl
-all_of_queue queues (packet ∷ ps) one =
-    ap (λ b. cond b (packet ∷ packets_of_queue queues 0 ps) (packets_of_queue queues 0 ps)) (eq-eqb (packet_queue queues packet) 0 (ap (λ k. sum (take 12 packet) % k) one ∙ omega arith))
-    ∙ ap (λ qs. packet ∷ qs) (all_of_queue queues ps one)
 
 of_one_class : (sockets : ℕ) (packet : List ℕ) → sockets ≡ 1 → packet_class sockets packet ≡ 0
 of_one_class sockets packet one = ap (λ n. sum (take 14 packet) % n) one ∙ omega arith

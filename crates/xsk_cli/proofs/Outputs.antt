@@ -1,22 +1,47 @@
 -- The outputs, written one after another.
-use Rattle.std.proofs.Common.{◌≡◌, ℕ, ◌+◌, ◌<◌, ◌≤◌, ltb, true, false, List, [], length, get_or, sym, ◌∙◌, subst, ⊎_elim, arith}
+use Rattle.std.proofs.Common.{◌≡◌, ℕ, ◌+◌, ◌<◌, ◌≤◌, ltb, true, false, List, [], Option, length, get_or, sym, ◌∙◌, subst, ⊎_elim, arith}
 use Rattle.std.specs.Prelude.{◌≢◌}
 use Rattle.std.proofs.lemmas.Bool.{cases_eq}
-use Rattle.xsk_io.specs.Bay.{Adds, AddsNoneBut, IsOffered, SameBut, Moment}
-use Rattle.xsk_io.proofs.Steps.{Adds-then, IsOffered-later, IsOffered-earlier}
+use Rattle.xsk_io.specs.Bay.{Adds, AddsNoneBut, CountsOnly, IsOffered, Same, SameBut, Moment}
+use Rattle.xsk_io.proofs.Steps.{Adds-none, Adds-then, AddsNoneBut-then, IsOffered-later, IsOffered-earlier, Same-then, SameBut-then}
+use Rattle.xsk_io.specs.declared.bay.Kind.TheVariants.{Open}
+use Rattle.xsk_io.specs.declared.bay.Offer.{Offer}
 use Rattle.xsk_io.specs.declared.bay.Stream.{Stream}
 use Rattle.xsk_io.specs.declared.bay.Stream.TheVariants.{Output}
-use Rattle.xsk_cli.specs.Streams.{IsTold, IsFront, AreWritten}
+use Rattle.xsk_cli.specs.Cause.{NeverFalls}
+use Rattle.xsk_cli.specs.Streams.{IsTold, IsFront, AreWritten, Rewritten}
 use Rattle.xsk_cli.specs.Steps.{FailsOutput, FailsOutputs}
 use Rattle.xsk_cli.specs.declared.failure.WriteFailure.{WriteFailure}
 use Rattle.xsk_cli.specs.declared.failure.WriteFailure.TheVariants.{Unopened, Unwritten}
+use Rattle.xsk_cli.proofs.Counting.{never_falls_by, never_falls_then}
 use Rattle.xsk_cli.proofs.Ports.{step, not_below_itself, below_next, below_as_before}
 
-pub record Rewritten (one : Stream) (old new : Moment) : Type 0 where
-  pub opened : SameBut one old.is_open new.is_open
-  pub asked : SameBut one old.asked new.asked
-  pub held : SameBut one old.held new.held
-  pub offers : AddsNoneBut one old.offers new.offers
+no_offers : (f g : Stream → Option (List Offer)) (one : Stream) → Same f g → AddsNoneBut one f g
+no_offers f g one same stream other = subst (λ o. Adds (f stream) o []) (sym (same stream)) (Adds-none (f stream))
+
+-- a stream was opened, or asked for in vain
+pub opened_only : (one : Stream) (old new : Moment) → SameBut one old.is_open new.is_open → SameBut one old.asked new.asked → Same old.left new.left → SameBut one old.held new.held → Same old.offers new.offers
+    → CountsOnly Open one old.faults new.faults → old.faults Open one ≤ new.faults Open one → Rewritten one old new
+opened_only one old new opened asked left held offers counts low = record {
+  opened = opened;
+  asked = asked;
+  left = left;
+  held = held;
+  offers = no_offers old.offers new.offers one offers;
+  falls = never_falls_by Open one old.faults new.faults counts low;
+}
+
+-- and then written
+pub Rewritten-then : (one : Stream) (old mid new : Moment) → Rewritten one old mid → Same mid.is_open new.is_open → Same mid.asked new.asked → Same mid.left new.left → SameBut one mid.held new.held → AddsNoneBut one mid.offers new.offers
+    → NeverFalls mid.faults new.faults → Rewritten one old new
+Rewritten-then one old mid new first opened asked left held offers falls = record {
+  opened = λ stream other. opened stream ∙ first.opened stream other;
+  asked = λ stream other. asked stream ∙ first.asked stream other;
+  left = Same-then old.left mid.left new.left first.left left;
+  held = SameBut-then one old.held mid.held new.held first.held held;
+  offers = AddsNoneBut-then one old.offers mid.offers new.offers first.offers offers;
+  falls = never_falls_then old.faults mid.faults new.faults first.falls falls;
+}
 
 other_output : (port n : ℕ) → (port ≡ n → ⊥) → Output port ≢ Output n
 other_output port n h e = h (let i : port ≡ n = cc in i)

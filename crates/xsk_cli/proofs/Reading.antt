@@ -4,15 +4,15 @@ use Rattle.std.specs.Prelude.{◌≢◌, IfSome, IfErr, Result, Err}
 use Rattle.std.specs.Io.KnownBytes.{IsAtEnd}
 use Rattle.std.proofs.lemmas.Bool.{cases_eq}
 use Rattle.std.proofs.lemmas.List.{get_or-map, length-map}
-use Rattle.xsk_io.specs.Bay.{Adds, Rose, Same, SameBut, Moment}
-use Rattle.xsk_io.proofs.Steps.{Adds-none, Rose-earlier}
+use Rattle.xsk_io.specs.Bay.{Adds, CountsOnly, Rose, Same, SameBut, Moment}
+use Rattle.xsk_io.proofs.Steps.{Adds-none, Rose-earlier, Same-then, SameBut-then}
 use Rattle.xsk_io.specs.declared.bay.Kind.TheVariants.{Open, Read}
 use Rattle.xsk_io.specs.declared.bay.Stream.{Stream}
 use Rattle.xsk_io.specs.declared.bay.Stream.TheVariants.{Input, Output, Report}
 use Rattle.xsk_cli.specs.Cause.{IsCaused, NeverFalls}
 use Rattle.xsk_cli.specs.Ends.{ComesOf, Ends}
 use Rattle.xsk_cli.specs.Outcome.{Written}
-use Rattle.xsk_cli.specs.Streams.{IsTold, at_input, Reaches, AreRead, AreWritten, IsReported, name_of}
+use Rattle.xsk_cli.specs.Streams.{IsTold, at_input, Reaches, AreRead, AreWritten, IsReported, Touched, name_of}
 use Rattle.xsk_cli.specs.Steps.{FailsReading, HaveRead, args_status, read_status}
 use Rattle.xsk_args.specs.declared.error.ArgsError.{ArgsError}
 use Rattle.xsk_args.specs.declared.error.ArgsError.TheVariants.{Usage as IsUsage, OutOfMemory as ArgsMemory}
@@ -23,14 +23,31 @@ use Rattle.xsk_cli.specs.declared.failure.ReadFailure.TheVariants.{Unopened, Unr
 use Rattle.xsk_cli.specs.declared.status.Excess.TheVariants.{Input as LongInput}
 use Rattle.xsk_cli.specs.declared.status.Status.{Status}
 use Rattle.xsk_cli.specs.declared.status.Status.TheVariants.{Usage, ReadFault, OpenFault, Refused, TooMuch, OutOfMemory}
+use Rattle.xsk_cli.proofs.Counting.{never_falls_by, never_falls_then}
 use Rattle.xsk_cli.proofs.Ports.{step, push_each, none_below, not_below_itself, below_next, below_as_before}
 
-pub record Touched (one : Stream) (old new : Moment) : Type 0 where
-  pub opened : SameBut one old.is_open new.is_open
-  pub asked : SameBut one old.asked new.asked
-  pub left : SameBut one old.left new.left
-  pub held : SameBut one old.held new.held
-  pub offers : Same old.offers new.offers
+pub asked_only : (one : Stream) (old new : Moment) → SameBut one old.is_open new.is_open → SameBut one old.asked new.asked → Same old.left new.left → SameBut one old.held new.held → Same old.offers new.offers
+    → CountsOnly Open one old.faults new.faults → old.faults Open one ≤ new.faults Open one → Touched one old new
+asked_only one old new opened asked left held offers counts low = record {
+  opened = opened;
+  asked = asked;
+  left = λ stream other. left stream;
+  held = held;
+  offers = offers;
+  falls = never_falls_by Open one old.faults new.faults counts low;
+}
+
+-- and then read
+pub Touched-then : (one : Stream) (old mid new : Moment) → Touched one old mid → Same mid.is_open new.is_open → Same mid.asked new.asked → SameBut one mid.left new.left → Same mid.held new.held → Same mid.offers new.offers
+    → NeverFalls mid.faults new.faults → Touched one old new
+Touched-then one old mid new first opened asked left held offers falls = record {
+  opened = λ stream other. opened stream ∙ first.opened stream other;
+  asked = λ stream other. asked stream ∙ first.asked stream other;
+  left = SameBut-then one old.left mid.left new.left first.left left;
+  held = λ stream other. held stream ∙ first.held stream other;
+  offers = Same-then old.offers mid.offers new.offers first.offers offers;
+  falls = never_falls_then old.faults mid.faults new.faults first.falls falls;
+}
 
 pub other_input : (port n : ℕ) → (port ≡ n → ⊥) → Input port ≢ Input n
 other_input port n h e = h (let i : port ≡ n = cc in i)

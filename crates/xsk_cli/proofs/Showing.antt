@@ -11,10 +11,10 @@ use Rattle.xsk_socket.specs.declared.layout.Unlawful.{Unlawful}
 use Rattle.xsk_workers.specs.Forwarded.{OutcomeShown}
 use Rattle.xsk_cli.specs.Cause.{IsCaused}
 use Rattle.xsk_cli.specs.Ends.{Answers, AreTaken, AreTold, ComesOf, Ends, IsComplete, NoneRose}
-use Rattle.xsk_cli.specs.Forward.{AreTextsFrom, ComesShown, EndsShown, IsAfterRun, IsRefusedAs, IsShown, ended_in}
+use Rattle.xsk_cli.specs.Forward.{AreTextsFrom, ComesShown, EndsShown, IsAfterRun, IsRefusedAs, IsShown, IsWritten, ended_in}
 use Rattle.xsk_cli.specs.Judged.{excess_of}
 use Rattle.xsk_cli.specs.Outcome.{IsOutcome, Outcome, Written, sent_from, bad, long, made, passed, stalled, illegal, bad_file}
-use Rattle.xsk_cli.specs.Steps.{Comes, ComesTo, IsBeforeRun, MakesNo, MakesNone, args_status, read_status, written_by}
+use Rattle.xsk_cli.specs.Steps.{Comes, ComesTo, HasTexts, IsBeforeRun, MakesNo, MakesNone, args_status, read_status, written_by}
 use Rattle.xsk_cli.specs.declared.status.Excess.TheVariants.{Input as LongInput, Packets, Bytes}
 use Rattle.xsk_io.specs.Bay.{Moment}
 use Rattle.xsk_cli.specs.Streams.{Reach}
@@ -161,6 +161,23 @@ check_file_shown plan old new None ends = no_file_check plan.work ends.inputs en
 check_file_shown plan old new (Some o) ends = ends.comes
 
 -- ---- texts
+
+-- texts that a run on threads shows come to a status that tells of texts
+pub written_comes : (work : Work) (inputs : List (List ℕ)) (o : OutcomeShown) (texts : Written) → IsWritten work inputs o texts → (old : Moment) (status : Status) → HasTexts status → ComesShown work (Some o) inputs texts old status
+written_comes work inputs o texts is old Done has = is
+written_comes work inputs o texts is old (WriteFault stream) has = is
+written_comes work inputs o texts is old (OpenFault (Output port)) has = is
+written_comes work inputs o texts is old (OpenFault (Input port)) has = absurd has
+written_comes work inputs o texts is old (OpenFault Report) has = absurd has
+written_comes work inputs o texts is old Usage has = absurd has
+written_comes work inputs o texts is old (BadCapture port cause) has = absurd has
+written_comes work inputs o texts is old (ReadFault port) has = absurd has
+written_comes work inputs o texts is old (Refused unlawful) has = absurd has
+written_comes work inputs o texts is old (Stalled round) has = absurd has
+written_comes work inputs o texts is old (TooMuch excess) has = absurd has
+written_comes work inputs o texts is old OutOfMemory has = absurd has
+written_comes work inputs o texts is old (NotLegal line) has = absurd has
+written_comes work inputs o texts is old (BadPcapng cause) has = absurd has
 
 -- there is a text for each port
 pub shown_count : (work : Work) (lists : List (List (List ℕ))) (o : OutcomeShown) (texts : Written) → AreTextsFrom work lists o texts → length texts.outputs ≡ written_by work

@@ -7,11 +7,11 @@ use Rattle.xsk_io.specs.declared.bay.Stream.{Stream}
 use Rattle.xsk_io.specs.declared.bay.Stream.TheVariants.{Input, Output, Report}
 use Rattle.xsk_io.proofs.Steps.{Adds-then, IsOffered-later}
 use Rattle.xsk_cli.specs.Ends.{ComesOf, EndsBy, Ends}
-use Rattle.xsk_cli.specs.Judged.{packets_in, bytes_in, excess_of}
+use Rattle.xsk_cli.specs.Judged.{AreShort, packets_in, bytes_in, excess_of}
 use Rattle.xsk_cli.specs.declared.status.Excess.{Excess}
 use Rattle.xsk_cli.specs.Outcome.{Written, made, IsOutcome, AreTextsBy, capture_of, sent_from}
 use Rattle.xsk_cli.specs.Streams.{IsTold, IsFront, at_output, at_input, Reaches, AreRead, AreWritten, HasLine, IsReported, IsSilent, name_of}
-use Rattle.xsk_cli.specs.Steps.{FailsWriting, HasTexts, HaveRead, MakesNo, MakesNone, no_texts, run_status, write_status, written_by}
+use Rattle.xsk_cli.specs.Steps.{AreFor, FailsWriting, HasTexts, HaveRead, MakesNo, MakesNone, no_texts, read_by, run_status, write_status, written_by}
 use Rattle.xsk_cli.specs.declared.words.Work.{Work}
 use Rattle.xsk_cli.specs.declared.words.Work.TheVariants.{Simulate, Generate, Audit}
 use Rattle.std.proofs.lemmas.List.{length-map}
@@ -40,6 +40,14 @@ still_written names texts opened whole old mid new are opened_same asked held no
 }
 
 -- ---- the whole command
+
+-- inputs that were read for a plan that is ready are as its work wants them
+pub inputs_for : (plan : Plan) (bytes : List (List ℕ)) (number : ℕ) (old mid : Moment) → HaveRead (most_of plan.work) plan.inputs bytes (length plan.inputs) old mid
+    → length bytes ≡ number → length plan.inputs ≡ read_by plan.work → AreFor plan.work bytes number
+inputs_for plan bytes number old mid have is ready = record {
+  count = sym is ∙ have.count_is ∙ ready;
+  short = subst (AreShort (most_of plan.work) bytes) (sym have.count_is ∙ is) have.short;
+}
 
 -- the inputs' part of a moment
 pub record SameInputs (old new : Moment) : Type 0 where

@@ -25,7 +25,7 @@ use Rattle.xsk_cli.specs.declared.texts.Outputs.{Outputs}
 use Rattle.xsk_cli.specs.declared.texts.Outputs.TheVariants.{Copied, Laid}
 use Rattle.xsk_cli.specs.declared.texts.Texts.{Texts}
 use Rattle.xsk_cli.specs.declared.words.Plan.{Plan as CodePlan}
-use Rattle.xsk_cli.specs.Words.{Plan, fault_in, suits_in, no_plan}
+use Rattle.xsk_cli.specs.Words.{Plan, fault_in, most_of, suits_in, no_plan}
 use Rattle.xsk_cli.specs.Cause.{IsCaused, NeverFalls, NoOthers}
 use Rattle.xsk_cli.specs.Ends.{Ends}
 use Rattle.xsk_cli.specs.declared.words.Work.{Work}
@@ -65,6 +65,11 @@ pub record IsReady (plan : Plan) : Type 0 where
   pub suits : suits_in plan.work ≡ true
   pub inputs : length plan.inputs ≡ read_by plan.work
   pub outputs : length plan.outputs ≡ written_by plan.work
+
+-- inputs as this work wants them, so many of them: as many as it reads, none of more bytes than the most
+pub record AreFor (work : Work) (inputs : List (List ℕ)) (number : ℕ) : Type 0 where
+  pub count : number ≡ read_by work
+  pub short : AreShort (most_of work) inputs number
 
 -- ---- the statuses of failures
 
@@ -212,6 +217,12 @@ HasTexts Done = Unit {0}
 HasTexts (WriteFault stream) = Unit {0}
 HasTexts (OpenFault (Output port)) = Unit {0}
 HasTexts status = ⊥
+
+-- texts of this work, where the drivers sent this and a status comes so of texts: one for each output, which can be written
+pub record AreMade (Comes : Written → Moment → Status → Type 0) (work : Work) (sent : List (List (List ℕ))) (texts : Texts) : Type 0 where
+  pub comes : (old : Moment) (status : Status) → HasTexts status → Comes (written_in sent texts) old status
+  pub count : length (outputs_in sent texts.outputs) ≡ written_by work
+  pub laid : CanBeLaid sent texts.outputs
 
 abbrev pub no_texts : Written
 no_texts = record { outputs = []; report = [] }

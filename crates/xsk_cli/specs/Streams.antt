@@ -1,10 +1,10 @@
 -- What a command did to its streams, once it has ended. It opens its files one after another: the inputs, of which each is
 -- read to its end before the next, and then the outputs, of which each is written before the next. After them comes the
 -- report.
-use Rattle.std.specs.Prelude.{◌≡◌, ℕ, ◌+◌, ◌<◌, ◌≤◌, ◌⊎◌, nat_lt, List, [], length, take, Option, IfSome, Result, Ok, Err}
+use Rattle.std.specs.Prelude.{◌≡◌, ℕ, ◌+◌, ◌<◌, ◌≤◌, ◌⊎◌, nat_lt, true, List, [], length, take, Option, IfSome, Result, Ok, Err}
 use Rattle.std.specs.Io.KnownBytes.{IsAtEnd}
 use Rattle.std.specs.List.{slice_index_or}
-use Rattle.xsk_io.specs.Bay.{Adds, Grows, GrowsByPart, IsOffered, Moment, Rose}
+use Rattle.xsk_io.specs.Bay.{Adds, AddsNoneBut, Grows, GrowsByPart, IsOffered, Moment, Rose, Same, SameBut}
 use Rattle.xsk_io.specs.declared.bay.Kind.{Kind}
 use Rattle.xsk_io.specs.declared.bay.Kind.TheVariants.{Write}
 use Rattle.xsk_io.specs.declared.bay.Stream.{Stream}
@@ -12,6 +12,7 @@ use Rattle.xsk_io.specs.declared.bay.Stream.TheVariants.{Input, Output, Report}
 use Rattle.xsk_cli.specs.declared.status.Excess.TheVariants.{Input as TooLong}
 use Rattle.xsk_cli.specs.declared.status.Status.{Status}
 use Rattle.xsk_cli.specs.declared.status.Status.TheVariants.{Done, Usage, BadCapture, ReadFault, WriteFault, OpenFault, Refused, Stalled, TooMuch, OutOfMemory, NotLegal, BadPcapng}
+use Rattle.xsk_cli.specs.Cause.{NeverFalls, Unchanged}
 use Rattle.xsk_cli.specs.Words.{Plan}
 
 -- the name is the text, where the bay tells it; and so of what a stream holds
@@ -88,6 +89,39 @@ pub record AreWritten (names texts : List (List ℕ)) (opened whole : ℕ) (old 
   pub later : (port : ℕ) → opened ≤ port → new.held (Output port) ≡ old.held (Output port)
   pub offered : (port : ℕ) → port < opened → IsOffered (old.offers (Output port)) (new.offers (Output port)) (length (slice_index_or texts port []))
   pub unoffered : (port : ℕ) → opened ≤ port → Adds (old.offers (Output port)) (new.offers (Output port)) []
+
+-- no stream was touched but this input, and nothing was written; no count of faults fell
+pub record Touched (one : Stream) (old new : Moment) : Type 0 where
+  pub opened : SameBut one old.is_open new.is_open
+  pub asked : SameBut one old.asked new.asked
+  pub left : SameBut one old.left new.left
+  pub held : SameBut one old.held new.held
+  pub offers : Same old.offers new.offers
+  pub falls : NeverFalls old.faults new.faults
+
+-- this input is open, and was read to its end, with these bytes, of which it has no more than the most; nothing failed
+pub record IsRead (most port : ℕ) (bytes : List ℕ) (old new : Moment) : Type 0 where
+  pub open_now : new.is_open (Input port) ≡ true
+  pub all : IsTold (old.left (Input port)) bytes
+  pub short : length bytes ≤ most
+  pub at_end : IsAtEnd (new.left (Input port))
+  pub unchanged : Unchanged old.faults new.faults
+
+-- no stream was touched but this output, and nothing was read; no count of faults fell
+pub record Rewritten (one : Stream) (old new : Moment) : Type 0 where
+  pub opened : SameBut one old.is_open new.is_open
+  pub asked : SameBut one old.asked new.asked
+  pub left : Same old.left new.left
+  pub held : SameBut one old.held new.held
+  pub offers : AddsNoneBut one old.offers new.offers
+  pub falls : NeverFalls old.faults new.faults
+
+-- this output is open, and holds its whole text, which was offered as one piece and then its rest; nothing failed
+pub record IsWhole (port : ℕ) (text : List ℕ) (old new : Moment) : Type 0 where
+  pub open_now : new.is_open (Output port) ≡ true
+  pub whole : IsTold (new.held (Output port)) text
+  pub offered : IsOffered (old.offers (Output port)) (new.offers (Output port)) (length text)
+  pub unchanged : Unchanged old.faults new.faults
 
 -- nothing was written to the report
 abbrev pub IsSilent : Moment → Moment → Type 0

@@ -10,13 +10,13 @@ ghost use Rattle.xsk_cli.specs.Streams.{status_in};
 ghost use Rattle.xsk_cli.specs.Words.{audit_plan, files_in, layout_by, without_files};
 
 use crate::Status;
-use crate::chain::{Chained, run_plan};
+use crate::chain::Chained;
 use crate::failure::RunFailure;
 use crate::options::LAYOUT;
 use crate::setup::set_up;
 use crate::texts::{Outputs, Texts};
 use crate::words::{Plan, Work, layout_of};
-use crate::work::WithoutRun;
+use crate::work::do_without_run;
 use std::alloc::Global;
 use std::fmt::Write;
 use xsk_args::{Args, parse};
@@ -44,7 +44,7 @@ pub(crate) fn run_audit<B: Bay>(alloc: Global, words: &[String], bay: &mut B) ->
     let Chained {
         result,
         left: _nothing,
-    } = run_plan(alloc, &plan, &WithoutRun, bay);
+    } = do_without_run(alloc, &plan, bay);
     result
 }
 

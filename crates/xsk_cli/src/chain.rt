@@ -1,14 +1,12 @@
 //! The chain of a command: its inputs are read, texts are made of them, and these are written.
-ghost use Rattle.std.specs.Prelude.{◌≡◌, ℕ, ◌≤◌, Option, List, None, Some, IfErr, IfOk, length, map, true};
+ghost use Rattle.std.specs.Prelude.{ℕ, Option, List, None, Some, IfErr, IfOk, length, map};
 ghost use Rattle.xsk_io.specs.Bay.{Moment, NoneOpen};
 ghost use Rattle.xsk_cli.specs.Cause.{IsCaused, NeverFalls, NoOthers};
 ghost use Rattle.xsk_cli.specs.Ends.{ComesOf, EndsBy};
-ghost use Rattle.xsk_cli.specs.Judged.{AreShort};
 ghost use Rattle.xsk_cli.specs.Outcome.{Written};
 ghost use Rattle.xsk_cli.specs.Forward.{IsAfterRun};
-ghost use Rattle.xsk_cli.specs.Steps.{CanBeLaid, HasTexts, IsReady, MakesNo, outputs_in, plan_in, read_by, written_by, written_in};
+ghost use Rattle.xsk_cli.specs.Steps.{AreFor, AreMade, IsReady, MakesNo, plan_in};
 ghost use Rattle.xsk_cli.specs.Streams.{HasLine, IsAtOnce, IsSilent, status_in};
-ghost use Rattle.xsk_cli.specs.Words.{fault_in, most_of, suits_in};
 ghost use Rattle.xsk_cli.specs.declared.status.Status.{Status as AStatus};
 ghost use Rattle.xsk_cli.specs.declared.words.Work.{Work as AWork};
 
@@ -18,7 +16,7 @@ use crate::input::read_inputs;
 use crate::leaves::Leaves;
 use crate::output::write_texts;
 use crate::texts::Texts;
-use crate::words::{Plan, Work};
+use crate::words::Plan;
 use std::alloc::Global;
 use xsk_io::Bay;
 
@@ -40,50 +38,33 @@ pub(crate) struct Chained<L> {
     pub(crate) left: Option<L>,
 }
 
-/// Who makes texts of a command's inputs: by a run on an engine, or without one.
+/// A way in which texts are made of a command's inputs: by a run on an engine, or without one. The function that makes them so is
+/// handed to [`run_plan`], since a method of a trait can't start threads by a bound of its own or of its `impl`.
 pub(crate) trait Maker {
     /// What a run leaves.
     type Left: Leaves;
 
-    // The work that it does.
-    ghost does: { AWork → Type 0 };
-
     // A status comes of this work, of what its run left, where one has ended, of these inputs, and of these texts.
     ghost comes: { AWork → Option Self.Left → List (List ℕ) → Written → Moment → AStatus → Type 0 };
-
-    /// Makes the texts.
-    fn make(
-        &self,
-        alloc: Global,
-        work: &Work,
-        inputs: Vec<Vec<u8>>,
-    ) -> Result<Made<Self::Left>, Unmade<Self::Left>>
-        requires accepted { fault_in work.now ≡ None }
-        requires suits { suits_in work.now ≡ true }
-        requires does { does work.now }
-        requires count { length inputs.items ≡ read_by work.now }
-        requires short { AreShort (most_of work.now) (map (λ bytes. bytes.items) inputs.items) (length inputs.items) }
-        ensures made { IfOk result (λ made. (old : Moment) (status : AStatus) → HasTexts status
-            → comes work.now (Some made.left) (map (λ bytes. bytes.items) inputs.items) (written_in (Self.Left.sent made.left) made.texts) old status) }
-        ensures count { IfOk result (λ made. length (outputs_in (Self.Left.sent made.left) made.texts.outputs) ≡ written_by work.now) }
-        ensures laid { IfOk result (λ made. CanBeLaid (Self.Left.sent made.left) made.texts.outputs) }
-        ensures failed { IfErr result (λ unmade. MakesNo (comes work.now unmade.left (map (λ bytes. bytes.items) inputs.items)) unmade.failure) };
 
     // Where no run was made a status comes of the inputs alone.
     ghost early: { (work : AWork) (inputs : List (List ℕ)) (texts : Written) (old : Moment) (status : AStatus) → (IsAfterRun status → ⊥)
         → ComesOf work inputs texts old status → comes work None inputs texts old status };
 }
 
-/// Reads the inputs, has texts made of them, and writes the outputs and the report.
-pub(crate) fn run_plan<M: Maker, B: Bay>(
-    alloc: Global,
-    plan: &Plan<'_, '_>,
-    maker: &M,
-    bay: &mut B,
-) -> Chained<M::Left>
+/// Reads the inputs, has texts made of them by the function, and writes the outputs and the report.
+pub(crate) fn run_plan<
+    M: Maker,
+    F: FnOnce(Vec<Vec<u8>>) -> Result<Made<M::Left>, Unmade<M::Left>>,
+    B: Bay,
+>(alloc: Global, plan: &Plan<'_, '_>, make: F, bay: &mut B) -> Chained<M::Left>
     requires ready { IsReady (plan_in plan.now) }
-    requires does { M.does plan.now.work }
     requires closed { NoneOpen (B.moment bay.old) }
+    requires can { (inputs : _) → AreFor plan.now.work (map (λ bytes. bytes.items) inputs.items) (length inputs.items) → F.pre make inputs }
+    requires made { (inputs : _) (answer : _) → AreFor plan.now.work (map (λ bytes. bytes.items) inputs.items) (length inputs.items) → F.post make inputs answer
+        → IfOk answer (λ made. AreMade (M.comes plan.now.work (Some made.left) (map (λ bytes. bytes.items) inputs.items)) plan.now.work (M.Left.sent made.left) made.texts) }
+    requires unmade { (inputs : _) (answer : _) → AreFor plan.now.work (map (λ bytes. bytes.items) inputs.items) (length inputs.items) → F.post make inputs answer
+        → IfErr answer (λ unmade. MakesNo (M.comes plan.now.work unmade.left (map (λ bytes. bytes.items) inputs.items)) unmade.failure) }
     ensures begun { IsAtOnce (status_in result.result) → ⊥ }
     ensures ends { EndsBy (M.comes plan.now.work result.left) (plan_in plan.now) (B.moment bay.old) (B.moment bay.new) (status_in result.result) }
     ensures silent { HasLine (status_in result.result) → IsSilent (B.moment bay.old) (B.moment bay.new) }
@@ -100,7 +81,7 @@ pub(crate) fn run_plan<M: Maker, B: Bay>(
             };
         }
     };
-    let (texts, mut left) = match maker.make(alloc, &plan.work, inputs) {
+    let (texts, mut left) = match make(inputs) {
         Ok(Made { texts, left }) => (texts, left),
         Err(Unmade { failure, left }) => {
             return Chained {

@@ -8,7 +8,7 @@ use xsk_pcapng::BadPcapng;
 use xsk_umem::OutOfMemory;
 
 /// Why the inputs weren't read.
-#[derive(Clone, Copy, Debug)]
+#[derive(Clone, Copy)]
 pub(crate) enum ReadFailure {
     /// The input of this port couldn't be opened.
     Unopened(u32),
@@ -20,7 +20,7 @@ pub(crate) enum ReadFailure {
 }
 
 /// Why nothing was made of the inputs.
-#[derive(Clone, Copy, Debug)]
+#[derive(Clone, Copy)]
 pub(crate) enum RunFailure {
     BadCapture { port: u32, cause: BadCapture },
     TooMuch(Excess),
@@ -32,7 +32,7 @@ pub(crate) enum RunFailure {
 }
 
 /// Why the texts weren't written.
-#[derive(Clone, Copy, Debug)]
+#[derive(Clone, Copy)]
 pub(crate) enum WriteFailure {
     /// The output of this port couldn't be opened.
     Unopened(u32),

@@ -3,7 +3,7 @@ ghost use Rattle.std.specs.Prelude.{◌≡◌};
 ghost use Rattle.xsk_cli.specs.Format.{files_of, most_input};
 
 /// The format of the files.
-#[derive(Clone, Copy, Debug, PartialEq, Eq)]
+#[derive(Clone, Copy)]
 pub enum Format {
     /// A capture for each port (pcap-savefile(5)).
     Pcap,

@@ -1,11 +1,10 @@
 //! The inputs of a command, read to their ends.
-ghost use Rattle.std.specs.Prelude.{◌≡◌, ◌<◌, ◌≤◌, false, true, length, map, IfErr, IfOk, OnOk};
-ghost use Rattle.std.specs.Io.KnownBytes.{IsAtEnd};
-ghost use Rattle.xsk_io.specs.Bay.{Same, SameBut, NoneOpen};
+ghost use Rattle.std.specs.Prelude.{◌≡◌, ◌<◌, ◌≤◌, false, length, map, IfErr, IfOk, OnOk};
+ghost use Rattle.xsk_io.specs.Bay.{Same, NoneOpen};
 ghost use Rattle.xsk_cli.specs.Cause.{IsCaused, NeverFalls, NoOthers, Unchanged};
 ghost use Rattle.xsk_cli.specs.Ends.{Ends};
 ghost use Rattle.xsk_cli.specs.Steps.{FailsReading, HaveRead, read_status};
-ghost use Rattle.xsk_cli.specs.Streams.{IsTold};
+ghost use Rattle.xsk_cli.specs.Streams.{IsRead, IsTold, Touched};
 ghost use Rattle.xsk_cli.specs.Words.{Plan, most_of};
 
 use crate::failure::ReadFailure;
@@ -50,20 +49,11 @@ fn read_input<B: Bay>(
     requires port { port < 4 }
     requires most { most ≤ 67108864 }
     requires closed { (B.moment bay.old).is_open (Stream.Input port) ≡ false }
-    ensures bytes { IfOk result (λ bytes. IsTold ((B.moment bay.old).left (Stream.Input port)) bytes.items) }
-    ensures short { IfOk result (λ bytes. length bytes.items ≤ most) }
+    ensures read { IfOk result (λ bytes. IsRead most port bytes.items (B.moment bay.old) (B.moment bay.new)) }
     ensures failed { IfErr result (FailsReading most port (B.moment bay.old) (B.moment bay.new)) }
-    ensures end { OnOk result (IsAtEnd ((B.moment bay.new).left (Stream.Input port))) }
-    ensures open { OnOk result ((B.moment bay.new).is_open (Stream.Input port) ≡ true) }
-    ensures asked { IsTold ((B.moment bay.new).asked (Stream.Input port)) name.now }
-    ensures left { SameBut (Stream.Input port) (B.moment bay.old).left (B.moment bay.new).left }
-    ensures opened { SameBut (Stream.Input port) (B.moment bay.old).is_open (B.moment bay.new).is_open }
-    ensures unchanged { OnOk result (Unchanged (B.moment bay.old).faults (B.moment bay.new).faults) }
     ensures others { IfErr result (λ failure. NoOthers (B.moment bay.old).faults (B.moment bay.new).faults (read_status failure)) }
-    ensures asked_others { SameBut (Stream.Input port) (B.moment bay.old).asked (B.moment bay.new).asked }
-    ensures held { SameBut (Stream.Input port) (B.moment bay.old).held (B.moment bay.new).held }
-    ensures offers { Same (B.moment bay.old).offers (B.moment bay.new).offers }
-    ensures falls { NeverFalls (B.moment bay.old).faults (B.moment bay.new).faults }
+    ensures asked { IsTold ((B.moment bay.new).asked (Stream.Input port)) name.now }
+    ensures touched { Touched (Stream.Input port) (B.moment bay.old) (B.moment bay.new) }
 {
     let stream = Stream::Input(port);
     if bay.open(stream, name).is_err() {

@@ -34,15 +34,11 @@ fn push_status(line: &mut ArrayString<96>, status: &Status)
         Status::Done => line.push_str("done"),
         Status::Usage => line.push_str("usage"),
         Status::BadCapture { port, cause } => {
-            line.push_str("bad capture ");
-            push_u32(line, *port);
+            push_named(line, "bad capture ", u64::from(*port));
             line.push_str(" ");
             push_cause(line, *cause);
         }
-        Status::ReadFault { port } => {
-            line.push_str("read fault ");
-            push_u32(line, *port);
-        }
+        Status::ReadFault { port } => push_named(line, "read fault ", u64::from(*port)),
         Status::WriteFault { stream } => {
             line.push_str("write fault ");
             push_stream(line, *stream);
@@ -55,19 +51,13 @@ fn push_status(line: &mut ArrayString<96>, status: &Status)
             line.push_str("refused ");
             push_unlawful(line, *unlawful);
         }
-        Status::Stalled { round } => {
-            line.push_str("stalled ");
-            push_u64(line, *round);
-        }
+        Status::Stalled { round } => push_named(line, "stalled ", *round),
         Status::TooMuch(excess) => {
             line.push_str("too much ");
             push_excess(line, *excess);
         }
         Status::OutOfMemory => line.push_str("out of memory"),
-        Status::NotLegal { line: at } => {
-            line.push_str("not legal ");
-            push_u64(line, *at);
-        }
+        Status::NotLegal { line: at } => push_named(line, "not legal ", *at),
         Status::BadPcapng(cause) => {
             line.push_str("bad pcapng ");
             push_file_cause(line, *cause);
@@ -85,14 +75,8 @@ fn push_cause(line: &mut ArrayString<96>, cause: BadCapture)
         BadCapture::BadMagic => line.push_str("bad magic"),
         BadCapture::BadVersion => line.push_str("bad version"),
         BadCapture::BadLink => line.push_str("bad link"),
-        BadCapture::Truncated { at } => {
-            line.push_str("truncated ");
-            push_u64(line, at);
-        }
-        BadCapture::RecordTooLong { at } => {
-            line.push_str("record too long ");
-            push_u64(line, at);
-        }
+        BadCapture::Truncated { at } => push_named(line, "truncated ", at),
+        BadCapture::RecordTooLong { at } => push_named(line, "record too long ", at),
         BadCapture::OutOfMemory => line.push_str("out of memory"),
     }
 }
@@ -106,14 +90,14 @@ fn push_file_cause(line: &mut ArrayString<96>, cause: BadPcapng)
         BadPcapng::ShortHeader => line.push_str("short header"),
         BadPcapng::BadMagic => line.push_str("bad magic"),
         BadPcapng::BadVersion => line.push_str("bad version"),
-        BadPcapng::Truncated { at } => push_at(line, "truncated ", at),
-        BadPcapng::BadBlock { at } => push_at(line, "bad block ", at),
-        BadPcapng::SecondSection { at } => push_at(line, "second section ", at),
-        BadPcapng::BadLink { at } => push_at(line, "bad link ", at),
-        BadPcapng::TooManyInterfaces { at } => push_at(line, "too many interfaces ", at),
-        BadPcapng::OtherPacket { at } => push_at(line, "other packet ", at),
-        BadPcapng::NoInterface { at } => push_at(line, "no interface ", at),
-        BadPcapng::RecordTooLong { at } => push_at(line, "record too long ", at),
+        BadPcapng::Truncated { at } => push_named(line, "truncated ", at),
+        BadPcapng::BadBlock { at } => push_named(line, "bad block ", at),
+        BadPcapng::SecondSection { at } => push_named(line, "second section ", at),
+        BadPcapng::BadLink { at } => push_named(line, "bad link ", at),
+        BadPcapng::TooManyInterfaces { at } => push_named(line, "too many interfaces ", at),
+        BadPcapng::OtherPacket { at } => push_named(line, "other packet ", at),
+        BadPcapng::NoInterface { at } => push_named(line, "no interface ", at),
+        BadPcapng::RecordTooLong { at } => push_named(line, "record too long ", at),
         BadPcapng::OutOfMemory => line.push_str("out of memory"),
     }
 }
@@ -124,14 +108,8 @@ fn push_stream(line: &mut ArrayString<96>, stream: Stream)
     ensures room { array_string_len line.new ≤ array_string_len line.old + 40 }
 {
     match stream {
-        Stream::Input(port) => {
-            line.push_str("input ");
-            push_u32(line, port);
-        }
-        Stream::Output(port) => {
-            line.push_str("output ");
-            push_u32(line, port);
-        }
+        Stream::Input(port) => push_named(line, "input ", u64::from(port)),
+        Stream::Output(port) => push_named(line, "output ", u64::from(port)),
         Stream::Report => line.push_str("report"),
     }
 }
@@ -142,18 +120,9 @@ fn push_excess(line: &mut ArrayString<96>, excess: Excess)
     ensures room { array_string_len line.new ≤ array_string_len line.old + 40 }
 {
     match excess {
-        Excess::Input(port) => {
-            line.push_str("input ");
-            push_u32(line, port);
-        }
-        Excess::Packets(packets) => {
-            line.push_str("packets ");
-            push_u64(line, packets);
-        }
-        Excess::Bytes(bytes) => {
-            line.push_str("bytes ");
-            push_u64(line, bytes);
-        }
+        Excess::Input(port) => push_named(line, "input ", u64::from(port)),
+        Excess::Packets(packets) => push_named(line, "packets ", packets),
+        Excess::Bytes(bytes) => push_named(line, "bytes ", bytes),
     }
 }
 
@@ -163,56 +132,30 @@ fn push_unlawful(line: &mut ArrayString<96>, unlawful: Unlawful)
     ensures room { array_string_len line.new ≤ array_string_len line.old + 40 }
 {
     match unlawful {
-        Unlawful::Ports(value) => push_named(line, "ports ", value),
-        Unlawful::Queues(value) => push_named(line, "queues ", value),
-        Unlawful::Sockets(value) => push_named(line, "sockets ", value),
-        Unlawful::Files(value) => push_named(line, "files ", value),
-        Unlawful::Chunk(value) => push_named(line, "chunk ", value),
-        Unlawful::Headroom(value) => push_named(line, "headroom ", value),
-        Unlawful::Frames(value) => push_named(line, "frames ", value),
-        Unlawful::Rx(value) => push_named(line, "rx ", value),
-        Unlawful::Tx(value) => push_named(line, "tx ", value),
-        Unlawful::Fill(value) => push_named(line, "fill ", value),
-        Unlawful::Comp(value) => push_named(line, "comp ", value),
-        Unlawful::Pool(value) => push_named(line, "pool ", value),
-        Unlawful::Empty(value) => push_named(line, "empty ", value),
-        Unlawful::Close(value) => push_named(line, "close ", value),
-        Unlawful::Hands(value) => push_named(line, "hands ", value),
+        Unlawful::Ports(value) => push_named(line, "ports ", u64::from(value)),
+        Unlawful::Queues(value) => push_named(line, "queues ", u64::from(value)),
+        Unlawful::Sockets(value) => push_named(line, "sockets ", u64::from(value)),
+        Unlawful::Files(value) => push_named(line, "files ", u64::from(value)),
+        Unlawful::Chunk(value) => push_named(line, "chunk ", u64::from(value)),
+        Unlawful::Headroom(value) => push_named(line, "headroom ", u64::from(value)),
+        Unlawful::Frames(value) => push_named(line, "frames ", u64::from(value)),
+        Unlawful::Rx(value) => push_named(line, "rx ", u64::from(value)),
+        Unlawful::Tx(value) => push_named(line, "tx ", u64::from(value)),
+        Unlawful::Fill(value) => push_named(line, "fill ", u64::from(value)),
+        Unlawful::Comp(value) => push_named(line, "comp ", u64::from(value)),
+        Unlawful::Pool(value) => push_named(line, "pool ", u64::from(value)),
+        Unlawful::Empty(value) => push_named(line, "empty ", u64::from(value)),
+        Unlawful::Close(value) => push_named(line, "close ", u64::from(value)),
+        Unlawful::Hands(value) => push_named(line, "hands ", u64::from(value)),
     }
 }
 
-fn push_named(line: &mut ArrayString<96>, name: &str, value: u32)
+fn push_named(line: &mut ArrayString<96>, name: &str, value: u64)
     requires room { array_string_len line.old ≤ 50 }
     requires name { length name.now ≤ 20 }
     ensures text { line.new.bytes ≡ line.old.bytes ++ (name.now ++ decimal value) }
-    ensures room { array_string_len line.new ≤ array_string_len line.old + (length name.now + 10) }
-{
-    line.push_str(name);
-    push_u32(line, value);
-}
-
-fn push_at(line: &mut ArrayString<96>, name: &str, at: u64)
-    requires room { array_string_len line.old ≤ 50 }
-    requires name { length name.now ≤ 20 }
-    ensures text { line.new.bytes ≡ line.old.bytes ++ (name.now ++ decimal at) }
     ensures room { array_string_len line.new ≤ array_string_len line.old + (length name.now + 20) }
 {
     line.push_str(name);
-    push_u64(line, at);
-}
-
-fn push_u32(line: &mut ArrayString<96>, number: u32)
-    requires { array_string_len line.old ≤ 76 }
-    ensures text { line.new.bytes ≡ line.old.bytes ++ decimal number }
-    ensures room { array_string_len line.new ≤ array_string_len line.old + 10 }
-{
-    line.push_str(Buffer::new().format(number));
-}
-
-fn push_u64(line: &mut ArrayString<96>, number: u64)
-    requires { array_string_len line.old ≤ 76 }
-    ensures text { line.new.bytes ≡ line.old.bytes ++ decimal number }
-    ensures room { array_string_len line.new ≤ array_string_len line.old + 20 }
-{
-    line.push_str(Buffer::new().format(number));
+    line.push_str(Buffer::new().format(value));
 }

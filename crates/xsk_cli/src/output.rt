@@ -1,12 +1,12 @@
 //! The outputs of a command, and its report.
-ghost use Rattle.std.specs.Prelude.{◌≡◌, ℕ, ◌<◌, ◌≤◌, ◌∷◌, [], false, true, length, map, IfErr, OnOk};
+ghost use Rattle.std.specs.Prelude.{◌≡◌, ℕ, ◌<◌, ◌≤◌, ◌∷◌, [], false, length, map, IfErr, OnOk};
 ghost use Rattle.std.specs.List.{slice_index_or};
 ghost use Rattle.xsk_pcap.specs.Written.{IsWritable};
-ghost use Rattle.xsk_io.specs.Bay.{Adds, AddsNoneBut, Same, SameBut, Grows, IsOffered};
+ghost use Rattle.xsk_io.specs.Bay.{Adds, Same, Grows, IsOffered};
 ghost use Rattle.xsk_cli.specs.Cause.{IsCaused, NeverFalls, NoOthers, Unchanged};
 ghost use Rattle.xsk_cli.specs.Outcome.{capture_of};
 ghost use Rattle.xsk_cli.specs.Steps.{CanBeLaid, FailsOutput, FailsOutputs, FailsWriting, outputs_in, write_status, written_in};
-ghost use Rattle.xsk_cli.specs.Streams.{AreWritten, IsTold};
+ghost use Rattle.xsk_cli.specs.Streams.{AreWritten, IsTold, IsWhole, Rewritten};
 
 use crate::failure::WriteFailure;
 use crate::leaves::Leaves;
@@ -87,19 +87,11 @@ fn write_next<B: Bay, L: Leaves>(
     requires known { port < length (outputs_in (L.sent left.old) outputs.now) }
     requires laid { CanBeLaid (L.sent left.old) outputs.now }
     requires closed { (B.moment bay.old).is_open (Stream.Output port) ≡ false }
-    ensures whole { OnOk result (IsTold ((B.moment bay.new).held (Stream.Output port)) (slice_index_or (outputs_in (L.sent left.old) outputs.now) port [])) }
-    ensures offered { OnOk result (IsOffered ((B.moment bay.old).offers (Stream.Output port)) ((B.moment bay.new).offers (Stream.Output port)) (length (slice_index_or (outputs_in (L.sent left.old) outputs.now) port []))) }
-    ensures unoffered { AddsNoneBut (Stream.Output port) (B.moment bay.old).offers (B.moment bay.new).offers }
-    ensures open { OnOk result ((B.moment bay.new).is_open (Stream.Output port) ≡ true) }
+    ensures written { OnOk result (IsWhole port (slice_index_or (outputs_in (L.sent left.old) outputs.now) port []) (B.moment bay.old) (B.moment bay.new)) }
     ensures failed { IfErr result (FailsOutput port (slice_index_or (outputs_in (L.sent left.old) outputs.now) port []) (B.moment bay.old) (B.moment bay.new)) }
-    ensures asked { IsTold ((B.moment bay.new).asked (Stream.Output port)) name.now }
-    ensures held { SameBut (Stream.Output port) (B.moment bay.old).held (B.moment bay.new).held }
-    ensures opened { SameBut (Stream.Output port) (B.moment bay.old).is_open (B.moment bay.new).is_open }
-    ensures asked_others { SameBut (Stream.Output port) (B.moment bay.old).asked (B.moment bay.new).asked }
-    ensures left { Same (B.moment bay.old).left (B.moment bay.new).left }
-    ensures falls { NeverFalls (B.moment bay.old).faults (B.moment bay.new).faults }
-    ensures unchanged { OnOk result (Unchanged (B.moment bay.old).faults (B.moment bay.new).faults) }
     ensures others { IfErr result (λ failure. NoOthers (B.moment bay.old).faults (B.moment bay.new).faults (write_status failure)) }
+    ensures asked { IsTold ((B.moment bay.new).asked (Stream.Output port)) name.now }
+    ensures rewritten { Rewritten (Stream.Output port) (B.moment bay.old) (B.moment bay.new) }
     ensures kept { left.new ≡ left.old }
 {
     match outputs {
@@ -120,19 +112,11 @@ fn write_laid<B: Bay, L: Leaves>(
     requires known { port < length (L.sent left.old) }
     requires writable { IsWritable (slice_index_or (L.sent left.old) port [] ∷ []) }
     requires closed { (B.moment bay.old).is_open (Stream.Output port) ≡ false }
-    ensures whole { OnOk result (IsTold ((B.moment bay.new).held (Stream.Output port)) (capture_of (slice_index_or (L.sent left.old) port []))) }
-    ensures offered { OnOk result (IsOffered ((B.moment bay.old).offers (Stream.Output port)) ((B.moment bay.new).offers (Stream.Output port)) (length (capture_of (slice_index_or (L.sent left.old) port [])))) }
-    ensures unoffered { AddsNoneBut (Stream.Output port) (B.moment bay.old).offers (B.moment bay.new).offers }
-    ensures open { OnOk result ((B.moment bay.new).is_open (Stream.Output port) ≡ true) }
+    ensures written { OnOk result (IsWhole port (capture_of (slice_index_or (L.sent left.old) port [])) (B.moment bay.old) (B.moment bay.new)) }
     ensures failed { IfErr result (FailsOutput port (capture_of (slice_index_or (L.sent left.old) port [])) (B.moment bay.old) (B.moment bay.new)) }
-    ensures asked { IsTold ((B.moment bay.new).asked (Stream.Output port)) name.now }
-    ensures held { SameBut (Stream.Output port) (B.moment bay.old).held (B.moment bay.new).held }
-    ensures opened { SameBut (Stream.Output port) (B.moment bay.old).is_open (B.moment bay.new).is_open }
-    ensures asked_others { SameBut (Stream.Output port) (B.moment bay.old).asked (B.moment bay.new).asked }
-    ensures left { Same (B.moment bay.old).left (B.moment bay.new).left }
-    ensures falls { NeverFalls (B.moment bay.old).faults (B.moment bay.new).faults }
-    ensures unchanged { OnOk result (Unchanged (B.moment bay.old).faults (B.moment bay.new).faults) }
     ensures others { IfErr result (λ failure. NoOthers (B.moment bay.old).faults (B.moment bay.new).faults (write_status failure)) }
+    ensures asked { IsTold ((B.moment bay.new).asked (Stream.Output port)) name.now }
+    ensures rewritten { Rewritten (Stream.Output port) (B.moment bay.old) (B.moment bay.new) }
     ensures kept { left.new ≡ left.old }
 {
     match left.lay(port) {
@@ -145,19 +129,11 @@ fn write_laid<B: Bay, L: Leaves>(
 fn write_output<B: Bay>(bay: &mut B, port: u32, name: &str, text: &[u8]) -> Result<(), WriteFailure>
     requires port { port < 4 }
     requires closed { (B.moment bay.old).is_open (Stream.Output port) ≡ false }
-    ensures whole { OnOk result (IsTold ((B.moment bay.new).held (Stream.Output port)) text.now) }
-    ensures offered { OnOk result (IsOffered ((B.moment bay.old).offers (Stream.Output port)) ((B.moment bay.new).offers (Stream.Output port)) (length text.now)) }
-    ensures unoffered { AddsNoneBut (Stream.Output port) (B.moment bay.old).offers (B.moment bay.new).offers }
-    ensures open { OnOk result ((B.moment bay.new).is_open (Stream.Output port) ≡ true) }
+    ensures written { OnOk result (IsWhole port text.now (B.moment bay.old) (B.moment bay.new)) }
     ensures failed { IfErr result (FailsOutput port text.now (B.moment bay.old) (B.moment bay.new)) }
-    ensures asked { IsTold ((B.moment bay.new).asked (Stream.Output port)) name.now }
-    ensures held { SameBut (Stream.Output port) (B.moment bay.old).held (B.moment bay.new).held }
-    ensures opened { SameBut (Stream.Output port) (B.moment bay.old).is_open (B.moment bay.new).is_open }
-    ensures asked_others { SameBut (Stream.Output port) (B.moment bay.old).asked (B.moment bay.new).asked }
-    ensures left { Same (B.moment bay.old).left (B.moment bay.new).left }
-    ensures falls { NeverFalls (B.moment bay.old).faults (B.moment bay.new).faults }
-    ensures unchanged { OnOk result (Unchanged (B.moment bay.old).faults (B.moment bay.new).faults) }
     ensures others { IfErr result (λ failure. NoOthers (B.moment bay.old).faults (B.moment bay.new).faults (write_status failure)) }
+    ensures asked { IsTold ((B.moment bay.new).asked (Stream.Output port)) name.now }
+    ensures rewritten { Rewritten (Stream.Output port) (B.moment bay.old) (B.moment bay.new) }
 {
     let stream = Stream::Output(port);
     if bay.open(stream, name).is_err() {

@@ -12,12 +12,12 @@ ghost use Rattle.xsk_cli.specs.Words.{gen_plan, plan_of, simulate_plan};
 
 use crate::Status;
 use crate::audit::run_audit;
-use crate::chain::{Chained, run_plan};
+use crate::chain::Chained;
 use crate::line::line;
 use crate::options::{LAYOUT, ROUNDS, RUN};
-use crate::rounds::InRounds;
+use crate::rounds::run_in_rounds;
 use crate::words::{Plan, Work, check_words, read_gen};
-use crate::work::WithoutRun;
+use crate::work::do_without_run;
 use std::alloc::Global;
 use xsk_args::parse;
 use xsk_io::{Bay, Stream, write_whole};
@@ -88,7 +88,7 @@ fn run_gen<B: Bay>(alloc: Global, words: &[String], bay: &mut B) -> Result<(), S
     let Chained {
         result,
         left: _nothing,
-    } = run_plan(alloc, &plan, &WithoutRun, bay);
+    } = do_without_run(alloc, &plan, bay);
     result
 }
 
@@ -103,7 +103,7 @@ fn run_simulate<B: Bay>(alloc: Global, words: &[String], bay: &mut B) -> Result<
     let Chained {
         result,
         left: _sent,
-    } = run_plan(alloc, &plan, &InRounds, bay);
+    } = run_in_rounds(alloc, &plan, bay);
     result
 }
 

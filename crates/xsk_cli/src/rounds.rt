@@ -8,13 +8,17 @@ ghost use Rattle.xsk_sim.specs.Runs.{HasEnded};
 ghost use Rattle.xsk_socket.specs.Layout.{fault_of, geometry_of, pairs_in};
 ghost use Rattle.xsk_socket.specs.Regular.{regular_of};
 ghost use Rattle.xsk_stats.specs.Report.{report_text};
+ghost use Rattle.xsk_io.specs.Bay.{NoneOpen};
+ghost use Rattle.xsk_cli.specs.Cause.{IsCaused, NeverFalls, NoOthers};
+ghost use Rattle.xsk_cli.specs.Ends.{ComesOf, Ends};
+ghost use Rattle.xsk_cli.specs.Streams.{HasLine, IsAtOnce, IsSilent, status_in};
 ghost use Rattle.xsk_cli.specs.Forward.{IsRun};
 ghost use Rattle.xsk_cli.specs.Judged.{AreShort, excess_of};
 ghost use Rattle.xsk_cli.specs.Outcome.{AreTextsBy, AreTextsOf, IsOutcome, frames_of, listed, made, setting_of};
-ghost use Rattle.xsk_cli.specs.Steps.{CanBeLaid, FailsMaking, FailsRunning, MakesNone, lists_in, outputs_in, read_by, written_by, written_in};
+ghost use Rattle.xsk_cli.specs.Steps.{AreFor, AreMade, CanBeLaid, FailsMaking, FailsRunning, IsReady, MakesNo, MakesNone, lists_in, outputs_in, plan_in, read_by, written_by, written_in};
 ghost use Rattle.xsk_cli.specs.Words.{fault_in, most_of, ports_in};
 
-use crate::chain::{Made, Maker, Unmade};
+use crate::chain::{Chained, Made, Maker, Unmade, run_plan};
 use crate::failure::RunFailure;
 use crate::files::spare_text;
 use crate::format::Format;
@@ -22,9 +26,10 @@ use crate::lists::take_lists;
 use crate::programs::chain_of;
 use crate::setup::set_up;
 use crate::texts::{Texts, sent_outputs};
-use crate::words::Work;
+use crate::words::{Plan, Work};
 use std::alloc::Global;
 use xsk_args::ProgramList;
+use xsk_io::Bay;
 use xsk_machine::Sent;
 use xsk_model::Config;
 use xsk_prog::{Rule, XdpProgram};
@@ -34,40 +39,58 @@ use xsk_stats::report;
 use xsk_turns::{Manner, Wire};
 use xsk_umem::{Frames, OutOfMemory, PacketList};
 
-/// It makes texts by a run in rounds.
-#[derive(Drop)]
-pub(crate) struct InRounds;
+/// Texts are made by a run in rounds.
+struct InRounds;
 
 impl Maker for InRounds {
     ghost use Rattle.xsk_cli.specs.Ends.{ComesOf};
-    ghost use Rattle.xsk_cli.specs.Forward.{IsRun};
 
     type Left = Sent;
-
-    ghost does = { IsRun };
 
     ghost comes = { λ work _ inputs texts old status. ComesOf work inputs texts old status };
 
     ghost early = { λ work inputs texts old status before is. is };
+}
 
-    fn make(
-        &self,
-        alloc: Global,
-        work: &Work,
-        inputs: Vec<Vec<u8>>,
-    ) -> Result<Made<Sent>, Unmade<Sent>> {
-        match run_inputs(alloc, work, inputs) {
-            Ok(ran) => Ok(ran),
-            Err(failure) => Err(Unmade {
-                failure,
-                left: None,
-            }),
-        }
+/// Does a plan by a run in rounds.
+pub(crate) fn run_in_rounds<B: Bay>(
+    alloc: Global,
+    plan: &Plan<'_, '_>,
+    bay: &mut B,
+) -> Chained<Sent>
+    requires ready { IsReady (plan_in plan.now) }
+    requires runs { IsRun plan.now.work }
+    requires closed { NoneOpen (B.moment bay.old) }
+    ensures begun { IsAtOnce (status_in result.result) → ⊥ }
+    ensures ends { Ends (plan_in plan.now) (B.moment bay.old) (B.moment bay.new) (status_in result.result) }
+    ensures silent { HasLine (status_in result.result) → IsSilent (B.moment bay.old) (B.moment bay.new) }
+    ensures cause { IsCaused (B.moment bay.old).faults (B.moment bay.new).faults (status_in result.result) }
+    ensures others { NoOthers (B.moment bay.old).faults (B.moment bay.new).faults (status_in result.result) }
+    ensures falls { NeverFalls (B.moment bay.old).faults (B.moment bay.new).faults }
+{
+    let work = &plan.work;
+    run_plan::<InRounds, _, B>(alloc, plan, |inputs| run_inputs(alloc, work, inputs), bay)
+}
+
+/// Runs the packets of inputs in rounds, and makes what is written.
+fn run_inputs(alloc: Global, work: &Work, inputs: Vec<Vec<u8>>) -> Result<Made<Sent>, Unmade<Sent>>
+    requires accepted { fault_in work.now ≡ None }
+    requires runs { IsRun work.now }
+    requires inputs { AreFor work.now (map (λ bytes. bytes.items) inputs.items) (length inputs.items) }
+    ensures made { IfOk result (λ made. AreMade (ComesOf work.now (map (λ bytes. bytes.items) inputs.items)) work.now made.left.lists made.texts) }
+    ensures unmade { IfErr result (λ unmade. MakesNo (ComesOf work.now (map (λ bytes. bytes.items) inputs.items)) unmade.failure) }
+{
+    match try_inputs(alloc, work, inputs) {
+        Ok(ran) => Ok(ran),
+        Err(failure) => Err(Unmade {
+            failure,
+            left: None,
+        }),
     }
 }
 
 /// Runs the packets of inputs, and makes what is written.
-fn run_inputs(alloc: Global, work: &Work, inputs: Vec<Vec<u8>>) -> Result<Made<Sent>, RunFailure>
+fn try_inputs(alloc: Global, work: &Work, inputs: Vec<Vec<u8>>) -> Result<Made<Sent>, RunFailure>
     requires accepted { fault_in work.now ≡ None }
     requires runs { IsRun work.now }
     requires count { length inputs.items ≡ read_by work.now }

@@ -11,14 +11,17 @@ ghost use Rattle.xsk_socket.specs.Layout.{fault_of, geometry_of, pairs_in};
 ghost use Rattle.xsk_socket.specs.Regular.{regular_of};
 ghost use Rattle.xsk_stats.specs.Report.{report_text};
 ghost use Rattle.xsk_workers.specs.Forwarded.{HasForwarded, OutcomeShown};
-ghost use Rattle.xsk_cli.specs.Forward.{AreTextsFrom, ComesShown, HasShown, IsRun, IsWritten, unmangled};
+ghost use Rattle.xsk_io.specs.Bay.{NoneOpen};
+ghost use Rattle.xsk_cli.specs.Cause.{IsCaused, NeverFalls, NoOthers};
+ghost use Rattle.xsk_cli.specs.Streams.{HasLine, IsAtOnce, IsSilent, status_in};
+ghost use Rattle.xsk_cli.specs.Forward.{AreTextsFrom, ComesShown, EndsShown, HasShown, IsRun, unmangled};
 ghost use Rattle.xsk_cli.specs.Format.{joined, outputs_of};
-ghost use Rattle.xsk_cli.specs.Judged.{AreShort, excess_of};
+ghost use Rattle.xsk_cli.specs.Judged.{excess_of};
 ghost use Rattle.xsk_cli.specs.Outcome.{AreTextsIn, frames_of, listed, report_of, setting_of};
-ghost use Rattle.xsk_cli.specs.Steps.{CanBeLaid, MakesNo, lists_in, outputs_in, read_by, written_by, written_in};
-ghost use Rattle.xsk_cli.specs.Words.{fault_in, most_of, ports_in, suits_hands, suits_in};
+ghost use Rattle.xsk_cli.specs.Steps.{AreFor, AreMade, CanBeLaid, IsReady, MakesNo, lists_in, outputs_in, plan_in, written_in};
+ghost use Rattle.xsk_cli.specs.Words.{fault_in, ports_in, suits_hands, suits_in};
 
-use crate::chain::{Made, Unmade};
+use crate::chain::{Chained, Made, Maker, Unmade, run_plan};
 use crate::failure::RunFailure;
 use crate::files::spare_text;
 use crate::format::Format;
@@ -27,12 +30,13 @@ use crate::programs::chain_of;
 use crate::setup::set_up;
 use crate::texts::{Texts, sent_outputs};
 use crate::thread_run::ThreadRun;
-use crate::words::Work;
+use crate::words::{Plan, Work};
 use std::alloc::Global;
 use std::sync::Wait;
 use std::thread::Threads;
 use xsk_args::ProgramList;
 use xsk_gate::Gate;
+use xsk_io::Bay;
 use xsk_model::Config;
 use xsk_prog::{Rule, XdpProgram};
 use xsk_socket::Layout;
@@ -41,8 +45,55 @@ use xsk_turns::{Manner, Wire};
 use xsk_umem::{Frames, OutOfMemory, PacketList};
 use xsk_workers::forward;
 
+/// Texts are made by a run on threads.
+struct OnThreads;
+
+impl Maker for OnThreads {
+    ghost use Rattle.xsk_cli.specs.Forward.{ComesShown};
+
+    type Left = ThreadRun;
+
+    ghost comes = { ComesShown };
+
+    ghost early = { λ work inputs texts old status before is. (before, is) };
+}
+
+/// Does a plan by a run on threads.
+pub(crate) fn run_on_threads<R: Threads + Wait + Sync, B: Bay, G: Gate + Sync>(
+    rt: &R,
+    alloc: Global,
+    plan: &Plan<'_, '_>,
+    bay: &mut B,
+    gate: &G,
+) -> Chained<ThreadRun>
+    requires ready { IsReady (plan_in plan.now) }
+    requires runs { IsRun plan.now.work }
+    requires closed { NoneOpen (B.moment bay.old) }
+    ensures begun { IsAtOnce (status_in result.result) → ⊥ }
+    ensures ends { EndsShown result.left (B.moment bay.old) (B.moment bay.new) (status_in result.result) (plan_in plan.now) }
+    ensures silent { HasLine (status_in result.result) → IsSilent (B.moment bay.old) (B.moment bay.new) }
+    ensures cause { IsCaused (B.moment bay.old).faults (B.moment bay.new).faults (status_in result.result) }
+    ensures others { NoOthers (B.moment bay.old).faults (B.moment bay.new).faults (status_in result.result) }
+    ensures falls { NeverFalls (B.moment bay.old).faults (B.moment bay.new).faults }
+{
+    let work = &plan.work;
+    run_plan::<OnThreads, _, B>(
+        alloc,
+        plan,
+        |inputs: Vec<Vec<u8>>| -> Result<Made<ThreadRun>, Unmade<ThreadRun>>
+            requires accepted { fault_in work.now ≡ None }
+            requires suits { suits_in work.now ≡ true }
+            requires runs { IsRun work.now }
+            requires inputs { AreFor work.now (map (λ bytes. bytes.items) inputs.items) (length inputs.items) }
+            ensures made { IfOk result (λ made. AreMade (ComesShown work.entry.now (Some made.left) (map (λ bytes. bytes.items) inputs.items)) work.entry.now made.left.sent made.texts) }
+            ensures unmade { IfErr result (λ unmade. MakesNo (ComesShown work.entry.now unmade.left (map (λ bytes. bytes.items) inputs.items)) unmade.failure) }
+        { show_inputs(rt, alloc, work, inputs, gate) },
+        bay,
+    )
+}
+
 /// Runs the packets of inputs on threads, and makes the texts of what the run shows.
-pub(crate) fn show_inputs<R: Threads + Wait + Sync, G: Gate + Sync>(
+fn show_inputs<R: Threads + Wait + Sync, G: Gate + Sync>(
     rt: &R,
     alloc: Global,
     work: &Work,
@@ -52,12 +103,9 @@ pub(crate) fn show_inputs<R: Threads + Wait + Sync, G: Gate + Sync>(
     requires accepted { fault_in work.now ≡ None }
     requires suits { suits_in work.now ≡ true }
     requires runs { IsRun work.now }
-    requires count { length inputs.items ≡ read_by work.now }
-    requires short { AreShort (most_of work.now) (map (λ bytes. bytes.items) inputs.items) (length inputs.items) }
-    ensures made { IfOk result (λ made. IsWritten work.now (map (λ bytes. bytes.items) inputs.items) made.left (written_in made.left.sent made.texts)) }
-    ensures count { IfOk result (λ made. length (outputs_in made.left.sent made.texts.outputs) ≡ written_by work.now) }
-    ensures laid { IfOk result (λ made. CanBeLaid made.left.sent made.texts.outputs) }
-    ensures failed { IfErr result (λ unmade. MakesNo (ComesShown work.now unmade.left (map (λ bytes. bytes.items) inputs.items)) unmade.failure) }
+    requires inputs { AreFor work.now (map (λ bytes. bytes.items) inputs.items) (length inputs.items) }
+    ensures made { IfOk result (λ made. AreMade (ComesShown work.now (Some made.left) (map (λ bytes. bytes.items) inputs.items)) work.now made.left.sent made.texts) }
+    ensures unmade { IfErr result (λ unmade. MakesNo (ComesShown work.now unmade.left (map (λ bytes. bytes.items) inputs.items)) unmade.failure) }
 {
     let lists = match take_lists(alloc, work, inputs) {
         Ok(lists) => lists,

@@ -1,20 +1,16 @@
 //! All commands, over a runtime that has threads: `forward`, and what [`run_plain`](crate::run_plain) does.
-ghost use Rattle.std.specs.Prelude.{◌≡◌, false, true, None, Some, map, string_bytes};
+ghost use Rattle.std.specs.Prelude.{◌≡◌, false, true, None, map, string_bytes};
 ghost use Rattle.xsk_io.specs.Bay.{NoneOpen};
 ghost use Rattle.xsk_cli.specs.Ample.{Finishes, GoesOn};
-ghost use Rattle.xsk_cli.specs.Forward.{EndsShown, IsPlainAnswer, IsRun, IsShownAnswer, ended_in, forward_plan as planned_by, is_forward as are_forward};
-ghost use Rattle.xsk_cli.specs.Cause.{IsCaused, NeverFalls, NoOthers};
-ghost use Rattle.xsk_cli.specs.Steps.{ComesTo, IsReady, plan_in};
-ghost use Rattle.xsk_cli.specs.Streams.{HasLine, IsAtOnce, IsSilent, status_in};
+ghost use Rattle.xsk_cli.specs.Forward.{EndsShown, IsPlainAnswer, IsShownAnswer, ended_in, forward_plan as planned_by, is_forward as are_forward};
+ghost use Rattle.xsk_cli.specs.Steps.{ComesTo};
 ghost use Rattle.xsk_cli.specs.Words.{plan_of};
 
 use crate::Status;
-use crate::chain::{Chained, Made, Unmade};
-use crate::input::read_inputs;
+use crate::chain::Chained;
 use crate::options::{LAYOUT, RUN, THREADS};
-use crate::output::write_texts;
 use crate::plain::{run_plain, status_of, tell};
-use crate::shown::show_inputs;
+use crate::shown::run_on_threads;
 use crate::thread_run::ThreadRun;
 use crate::words::{Plan, check_words};
 use std::alloc::Global;
@@ -114,57 +110,9 @@ fn forward_words<R: Threads + Wait + Sync, B: Bay, G: Gate + Sync>(
     let args = parse(alloc, "forward", &[&LAYOUT, &RUN, &THREADS], words)?;
     check_words(&args)?;
     let plan = Plan::of(&args)?;
-    let Chained { result, left } = forward_plan(rt, alloc, &plan, bay, gate);
+    let Chained { result, left } = run_on_threads(rt, alloc, &plan, bay, gate);
     Ok(Ended {
         status: status_of(result),
         outcome: left,
     })
-}
-
-/// Reads the inputs, runs their packets on threads, and writes the outputs and the report.
-fn forward_plan<R: Threads + Wait + Sync, B: Bay, G: Gate + Sync>(
-    rt: &R,
-    alloc: Global,
-    plan: &Plan<'_, '_>,
-    bay: &mut B,
-    gate: &G,
-) -> Chained<ThreadRun>
-    requires ready { IsReady (plan_in plan.now) }
-    requires runs { IsRun plan.now.work }
-    requires closed { NoneOpen (B.moment bay.old) }
-    ensures begun { IsAtOnce (status_in result.result) → ⊥ }
-    ensures ends { EndsShown result.left (B.moment bay.old) (B.moment bay.new) (status_in result.result) (plan_in plan.now) }
-    ensures silent { HasLine (status_in result.result) → IsSilent (B.moment bay.old) (B.moment bay.new) }
-    ensures cause { IsCaused (B.moment bay.old).faults (B.moment bay.new).faults (status_in result.result) }
-    ensures others { NoOthers (B.moment bay.old).faults (B.moment bay.new).faults (status_in result.result) }
-    ensures falls { NeverFalls (B.moment bay.old).faults (B.moment bay.new).faults }
-{
-    let inputs = match read_inputs(alloc, bay, plan.inputs, plan.work.most_input()) {
-        Ok(inputs) => inputs,
-        Err(failure) => {
-            return Chained {
-                result: Err(Status::from(failure)),
-                left: None,
-            };
-        }
-    };
-    let (texts, mut left) = match show_inputs(rt, alloc, &plan.work, inputs, gate) {
-        Ok(Made { texts, left }) => (texts, left),
-        Err(Unmade { failure, left }) => {
-            return Chained {
-                result: Err(Status::from(failure)),
-                left,
-            };
-        }
-    };
-    match write_texts(bay, plan.outputs, &mut left, &texts) {
-        Ok(()) => Chained {
-            result: Ok(()),
-            left: Some(left),
-        },
-        Err(failure) => Chained {
-            result: Err(Status::from(failure)),
-            left: Some(left),
-        },
-    }
 }

@@ -1,17 +1,17 @@
 use Rattle.std.proofs.Common.{rules, ◌≡◌, length, map, sym, ◌∙◌, subst, arith, None, Some}
+use Rattle.std.specs.Prelude.{Ok, Err}
 use Rattle.std.proofs.lemmas.List.{length-map}
 use Rattle.xsk_io.specs.Bay.{Moment}
 use Rattle.xsk_cli.specs.Ends.{ComesOf, EndsBy}
-use Rattle.xsk_cli.specs.Judged.{AreShort}
 use Rattle.xsk_cli.specs.Outcome.{Written}
-use Rattle.xsk_cli.specs.Steps.{HaveRead, plan_in, read_status, write_status, written_in}
+use Rattle.xsk_cli.specs.Steps.{AreFor, AreMade, HaveRead, plan_in, read_status, write_status, written_in}
 use Rattle.xsk_cli.specs.Streams.{AreWritten}
 use Rattle.xsk_cli.specs.Words.{most_of}
 use Rattle.xsk_cli.specs.declared.status.Status.TheVariants.{Done, OpenFault, WriteFault}
 use Rattle.xsk_io.specs.declared.bay.Stream.TheVariants.{Output}
 use Rattle.xsk_cli.proofs.Making.{few_read}
 use Rattle.xsk_cli.proofs.Showing.{few_written, read_before}
-use Rattle.xsk_cli.proofs.Writing.{SameInputs, done_by, ends_as, unmade_by, unwritten_by}
+use Rattle.xsk_cli.proofs.Writing.{SameInputs, done_by, ends_as, inputs_for, unmade_by, unwritten_by}
 use Rattle.xsk_cli.proofs.chain.run_plan.Goals as goal
 
 pub read_inputs-requires-clause-few : goal.read_inputs-requires-clause-few
@@ -27,11 +27,11 @@ returns-in-Err-clause-ends g c =
     let comes = g.M.Maker.comes plan.work None in
     subst (λ s. EndsBy comes plan old mid s) (sym c.from.ensures)
     (ends_as (ComesOf plan.work) comes plan old mid (read_status failure)
-    (λ inputs texts is. g.met.M.Maker.early plan.work inputs texts old (read_status failure) (read_before failure) is)
+    (λ inputs texts is. g.M.Maker.early plan.work inputs texts old (read_status failure) (read_before failure) is)
     (c.in-Err.ensures.failed plan (search rules) (sym c.most_input.ensures)))
 
-pub make-requires-clause-short : goal.make-requires-clause-short
-make-requires-clause-short g c =
+pub make-requires : goal.make-requires
+make-requires g c =
     let old : Moment = g.B.Bay.moment c.args.bay.now in
     let mid : Moment = g.B.Bay.moment c.read_inputs.new.bay in
     let plan = plan_in c.args.plan.now in
@@ -39,7 +39,7 @@ make-requires-clause-short g c =
     let have : HaveRead (most_of plan.work) plan.inputs bytes (length plan.inputs) old mid =
     subst (λ m. HaveRead m plan.inputs bytes (length plan.inputs) old mid) c.most_input.ensures
     (subst (λ n. HaveRead c.most_input.result plan.inputs bytes n old mid) (sym (length-map c.args.plan.now.inputs.now (λ name. name.now))) c.in-Ok.ensures.read) in
-    subst (AreShort (most_of plan.work) bytes) (sym have.count_is ∙ length-map c.in-Ok.inputs.items (λ bytes. bytes.items)) have.short
+    c.requires.can c.in-Ok.inputs (inputs_for plan bytes (length c.in-Ok.inputs.items) old mid have (length-map c.in-Ok.inputs.items (λ bytes. bytes.items)) c.requires.ready.inputs)
 
 pub returns-in-Err-make-clause-ends : goal.returns-in-Err-make-clause-ends
 returns-in-Err-make-clause-ends g c =
@@ -52,14 +52,40 @@ returns-in-Err-make-clause-ends g c =
     let have : HaveRead (most_of plan.work) plan.inputs bytes (length plan.inputs) old mid =
     subst (λ m. HaveRead m plan.inputs bytes (length plan.inputs) old mid) c.most_input.ensures
     (subst (λ n. HaveRead c.most_input.result plan.inputs bytes n old mid) (sym (length-map c.args.plan.now.inputs.now (λ name. name.now))) c.in-Ok.ensures.read) in
-    subst (λ s. EndsBy comes plan old mid s) (sym c.from-in-Err-make.ensures) (unmade_by plan bytes old mid mid have comes failure c.in-Err-make.ensures.failed)
+    let are_for : AreFor plan.work bytes (length c.in-Ok.inputs.items) = inputs_for plan bytes (length c.in-Ok.inputs.items) old mid have (length-map c.in-Ok.inputs.items (λ bytes. bytes.items)) c.requires.ready.inputs in
+    subst (λ s. EndsBy comes plan old mid s) (sym c.from-in-Err-make.ensures) (unmade_by plan bytes old mid mid have comes failure (c.requires.unmade c.in-Ok.inputs (Err c.in-Err-make.field-0) are_for c.in-Err-make.ensures))
 
 pub write_texts-requires-clause-few : goal.write_texts-requires-clause-few
 write_texts-requires-clause-few g c =
     omega (arith, few_written c.args.plan.now.work c.requires.ready.accepted, c.requires.ready.outputs, length-map c.args.plan.now.outputs.now (λ name. name.now))
 
 pub write_texts-requires-clause-texts : goal.write_texts-requires-clause-texts
-write_texts-requires-clause-texts g c = c.in-Ok-make.ensures.count ∙ sym c.requires.ready.outputs ∙ length-map c.args.plan.now.outputs.now (λ name. name.now)
+write_texts-requires-clause-texts g c =
+    let old : Moment = g.B.Bay.moment c.args.bay.now in
+    let mid : Moment = g.B.Bay.moment c.read_inputs.new.bay in
+    let plan = plan_in c.args.plan.now in
+    let bytes = map (λ bytes. bytes.items) c.in-Ok.inputs.items in
+    let left = c.in-Ok-make.field-0.left in
+    let have : HaveRead (most_of plan.work) plan.inputs bytes (length plan.inputs) old mid =
+    subst (λ m. HaveRead m plan.inputs bytes (length plan.inputs) old mid) c.most_input.ensures
+    (subst (λ n. HaveRead c.most_input.result plan.inputs bytes n old mid) (sym (length-map c.args.plan.now.inputs.now (λ name. name.now))) c.in-Ok.ensures.read) in
+    let are_for : AreFor plan.work bytes (length c.in-Ok.inputs.items) = inputs_for plan bytes (length c.in-Ok.inputs.items) old mid have (length-map c.in-Ok.inputs.items (λ bytes. bytes.items)) c.requires.ready.inputs in
+    let are : AreMade (g.M.Maker.comes plan.work (Some left) bytes) plan.work (g.M.Left.Leaves.sent left) c.in-Ok-make.field-0.texts = c.requires.made c.in-Ok.inputs (Ok c.in-Ok-make.field-0) are_for c.in-Ok-make.ensures in
+    are.count ∙ sym c.requires.ready.outputs ∙ length-map c.args.plan.now.outputs.now (λ name. name.now)
+
+pub write_texts-requires-clause-laid : goal.write_texts-requires-clause-laid
+write_texts-requires-clause-laid g c =
+    let old : Moment = g.B.Bay.moment c.args.bay.now in
+    let mid : Moment = g.B.Bay.moment c.read_inputs.new.bay in
+    let plan = plan_in c.args.plan.now in
+    let bytes = map (λ bytes. bytes.items) c.in-Ok.inputs.items in
+    let left = c.in-Ok-make.field-0.left in
+    let have : HaveRead (most_of plan.work) plan.inputs bytes (length plan.inputs) old mid =
+    subst (λ m. HaveRead m plan.inputs bytes (length plan.inputs) old mid) c.most_input.ensures
+    (subst (λ n. HaveRead c.most_input.result plan.inputs bytes n old mid) (sym (length-map c.args.plan.now.inputs.now (λ name. name.now))) c.in-Ok.ensures.read) in
+    let are_for : AreFor plan.work bytes (length c.in-Ok.inputs.items) = inputs_for plan bytes (length c.in-Ok.inputs.items) old mid have (length-map c.in-Ok.inputs.items (λ bytes. bytes.items)) c.requires.ready.inputs in
+    let are : AreMade (g.M.Maker.comes plan.work (Some left) bytes) plan.work (g.M.Left.Leaves.sent left) c.in-Ok-make.field-0.texts = c.requires.made c.in-Ok.inputs (Ok c.in-Ok-make.field-0) are_for c.in-Ok-make.ensures in
+    are.laid
 
 pub returns-clause-ends : goal.returns-clause-ends
 returns-clause-ends g c =
@@ -74,11 +100,13 @@ returns-clause-ends g c =
     let have : HaveRead (most_of plan.work) plan.inputs bytes (length plan.inputs) old mid =
     subst (λ m. HaveRead m plan.inputs bytes (length plan.inputs) old mid) c.most_input.ensures
     (subst (λ n. HaveRead c.most_input.result plan.inputs bytes n old mid) (sym (length-map c.args.plan.now.inputs.now (λ name. name.now))) c.in-Ok.ensures.read) in
+    let are_for : AreFor plan.work bytes (length c.in-Ok.inputs.items) = inputs_for plan bytes (length c.in-Ok.inputs.items) old mid have (length-map c.in-Ok.inputs.items (λ bytes. bytes.items)) c.requires.ready.inputs in
+    let are : AreMade (g.M.Maker.comes plan.work (Some left) bytes) plan.work (g.M.Left.Leaves.sent left) c.in-Ok-make.field-0.texts = c.requires.made c.in-Ok.inputs (Ok c.in-Ok-make.field-0) are_for c.in-Ok-make.ensures in
     let same : SameInputs mid new = record { opened = c.write_texts.ensures.opened; asked = c.write_texts.ensures.asked; left = λ port. c.write_texts.ensures.left _ } in
     let comes = g.M.Maker.comes plan.work (Some left) in
     subst (λ s. EndsBy (g.M.Maker.comes plan.work (Some c.write_texts.new.left)) plan old new s) (sym c.from-in-Err-write_texts.ensures)
     (subst (λ l. EndsBy (g.M.Maker.comes plan.work (Some l)) plan old new (write_status failure)) (sym c.write_texts.ensures.kept)
-    (unwritten_by plan bytes old mid new have comes texts same (λ stream. c.in-Ok-make.ensures.made old (WriteFault stream) tt) (λ port. c.in-Ok-make.ensures.made old (OpenFault (Output port)) tt) failure c.in-Err-write_texts.ensures.failed))
+    (unwritten_by plan bytes old mid new have comes texts same (λ stream. are.comes old (WriteFault stream) tt) (λ port. are.comes old (OpenFault (Output port)) tt) failure c.in-Err-write_texts.ensures.failed))
 
 pub returns-in-Ok-write_texts-clause-ends : goal.returns-in-Ok-write_texts-clause-ends
 returns-in-Ok-write_texts-clause-ends g c =
@@ -92,10 +120,12 @@ returns-in-Ok-write_texts-clause-ends g c =
     let have : HaveRead (most_of plan.work) plan.inputs bytes (length plan.inputs) old mid =
     subst (λ m. HaveRead m plan.inputs bytes (length plan.inputs) old mid) c.most_input.ensures
     (subst (λ n. HaveRead c.most_input.result plan.inputs bytes n old mid) (sym (length-map c.args.plan.now.inputs.now (λ name. name.now))) c.in-Ok.ensures.read) in
+    let are_for : AreFor plan.work bytes (length c.in-Ok.inputs.items) = inputs_for plan bytes (length c.in-Ok.inputs.items) old mid have (length-map c.in-Ok.inputs.items (λ bytes. bytes.items)) c.requires.ready.inputs in
+    let are : AreMade (g.M.Maker.comes plan.work (Some left) bytes) plan.work (g.M.Left.Leaves.sent left) c.in-Ok-make.field-0.texts = c.requires.made c.in-Ok.inputs (Ok c.in-Ok-make.field-0) are_for c.in-Ok-make.ensures in
     let same : SameInputs mid new = record { opened = c.write_texts.ensures.opened; asked = c.write_texts.ensures.asked; left = λ port. c.write_texts.ensures.left _ } in
     let comes = g.M.Maker.comes plan.work (Some left) in
     let count : length plan.outputs ≡ length c.args.plan.now.outputs.now = length-map c.args.plan.now.outputs.now (λ name. name.now) in
     let writes : AreWritten plan.outputs texts.outputs (length plan.outputs) (length plan.outputs) mid new =
     subst (λ n. AreWritten plan.outputs texts.outputs n n mid new) (sym count) c.in-Ok-write_texts.ensures.written in
     subst (λ l. EndsBy (g.M.Maker.comes plan.work (Some l)) plan old new Done) (sym c.write_texts.ensures.kept)
-    (done_by plan bytes old mid new have comes texts same (c.in-Ok-make.ensures.made old Done tt) writes c.in-Ok-write_texts.ensures.report c.in-Ok-write_texts.ensures.offered)
+    (done_by plan bytes old mid new have comes texts same (are.comes old Done tt) writes c.in-Ok-write_texts.ensures.report c.in-Ok-write_texts.ensures.offered)

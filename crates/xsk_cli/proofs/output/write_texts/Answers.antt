@@ -1,10 +1,12 @@
-use Rattle.std.proofs.Common.{rules, length, map, sym, subst}
+use Rattle.std.proofs.Common.{rules, length, map, sym, ◌∙◌, subst}
 use Rattle.std.proofs.lemmas.List.{length-map}
 use Rattle.xsk_io.specs.Bay.{GrowsByPart, IsOffered, Moment}
-use Rattle.xsk_io.proofs.Steps.{IsOffered-earlier}
-use Rattle.xsk_io.specs.declared.bay.Stream.TheVariants.{Output, Report}
+use Rattle.xsk_io.proofs.Steps.{IsOffered-earlier, Same-then}
+use Rattle.xsk_io.specs.declared.bay.Kind.TheVariants.{Write}
+use Rattle.xsk_io.specs.declared.bay.Stream.TheVariants.{Input, Output, Report}
 use Rattle.xsk_cli.specs.Streams.{AreWritten}
 use Rattle.xsk_cli.specs.Steps.{written_in}
+use Rattle.xsk_cli.proofs.Counting.{but_its_own, never_falls_by, never_falls_then, none_of_it, unchanged_then}
 use Rattle.xsk_cli.proofs.Writing.{still_written}
 use Rattle.xsk_cli.proofs.output.write_texts.Goals as goal
 
@@ -35,3 +37,33 @@ returns-clause-written g c =
     let still : AreWritten names (written_in (g.L.Leaves.sent c.args.left.now) c.args.texts.now).outputs n n old new = still_written names (written_in (g.L.Leaves.sent c.args.left.now) c.args.texts.now).outputs n n old mid new are c.write_whole.ensures.opened c.write_whole.ensures.names
     (λ port. c.write_whole.ensures.held_others (Output port) (λ e. cc)) (λ port. c.write_whole.ensures.other_offers (Output port) (λ e. cc)) in
     still
+
+pub returns-then-is_err-clause-opened : goal.returns-then-is_err-clause-opened
+returns-then-is_err-clause-opened g c port = c.write_whole.ensures.opened (Input port) ∙ c.write_outputs.ensures.opened port
+
+pub returns-then-is_err-clause-asked : goal.returns-then-is_err-clause-asked
+returns-then-is_err-clause-asked g c port = c.write_whole.ensures.names (Input port) ∙ c.write_outputs.ensures.asked port
+
+pub returns-then-is_err-clause-left : goal.returns-then-is_err-clause-left
+returns-then-is_err-clause-left g c = Same-then _ _ _ c.write_outputs.ensures.left c.write_whole.ensures.left
+
+pub returns-then-is_err-clause-falls : goal.returns-then-is_err-clause-falls
+returns-then-is_err-clause-falls g c = never_falls_then _ _ _ c.write_outputs.ensures.falls (never_falls_by Write Report _ _ c.write_whole.ensures.counts c.write_whole.ensures.never_falls)
+
+pub returns-clause-opened : goal.returns-clause-opened
+returns-clause-opened g c port = c.write_whole.ensures.opened (Input port) ∙ c.write_outputs.ensures.opened port
+
+pub returns-clause-asked : goal.returns-clause-asked
+returns-clause-asked g c port = c.write_whole.ensures.names (Input port) ∙ c.write_outputs.ensures.asked port
+
+pub returns-clause-left : goal.returns-clause-left
+returns-clause-left g c = Same-then _ _ _ c.write_outputs.ensures.left c.write_whole.ensures.left
+
+pub returns-clause-falls : goal.returns-clause-falls
+returns-clause-falls g c = never_falls_then _ _ _ c.write_outputs.ensures.falls (never_falls_by Write Report _ _ c.write_whole.ensures.counts c.write_whole.ensures.never_falls)
+
+pub returns-then-is_err-clause-others : goal.returns-then-is_err-clause-others
+returns-then-is_err-clause-others g c kind stream other = but_its_own Write Report _ _ c.write_whole.ensures.counts kind stream other ∙ c.in_ok-write_outputs.ensures.unchanged kind stream
+
+pub returns-clause-unchanged : goal.returns-clause-unchanged
+returns-clause-unchanged g c = unchanged_then _ _ _ c.in_ok-write_outputs.ensures.unchanged (none_of_it Write Report _ _ c.write_whole.ensures.counts (search rules))

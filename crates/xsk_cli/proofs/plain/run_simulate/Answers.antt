@@ -31,8 +31,8 @@ returns-in_err-check_words g c =
     comes_as c.from_residual-in_err-check_words.result (args_status error) planned now now (search rules)
     (args_comes planned now c.requires error (λ _. has_no_plan (under c.in_ok-args.args) (meaning (codes "simulate") options words) c.in_ok-args.ensures.told c.in_err-check_words.ensures.usage.1))
 
-pub run_plan-result-requires-clause-ready : goal.run_plan-result-requires-clause-ready
-run_plan-result-requires-clause-ready g c = plan_ready (under c.in_ok-args.args) (plan_in c.in_ok-plan.plan) c.in_ok-check_words.ensures.passed c.in_ok-plan.ensures.plan c.in_ok-plan.ensures.accepted
+pub run_in_rounds-result-requires-clause-ready : goal.run_in_rounds-result-requires-clause-ready
+run_in_rounds-result-requires-clause-ready g c = plan_ready (under c.in_ok-args.args) (plan_in c.in_ok-plan.plan) c.in_ok-check_words.ensures.passed c.in_ok-plan.ensures.plan c.in_ok-plan.ensures.accepted
 
 pub returns-in_err-plan : goal.returns-in_err-plan
 returns-in_err-plan g c =
@@ -48,11 +48,11 @@ returns-in_err-plan g c =
 pub returns : goal.returns
 returns g c =
     let old : Moment = g.B.Bay.moment c.args.bay.now in
-    let new : Moment = g.B.Bay.moment c.run_plan-result.new.bay in
+    let new : Moment = g.B.Bay.moment c.run_in_rounds-result.new.bay in
     let words : List Text = map string_bytes c.args.words.now in
     let planned : Option Plan = simulate_plan words in
     let plan : Plan = plan_in c.in_ok-plan.plan in
     let is : planned ≡ Some plan =
     has_plan (under c.in_ok-args.args) (meaning (codes "simulate") options words) c.in_ok-args.ensures.told c.in_ok-check_words.ensures.passed ∙ ap Some (sym c.in_ok-plan.ensures.plan) in
-    plan_comes planned plan old new (status_in c.run_plan-result.result.result) is c.in_ok-plan.ensures.accepted c.run_plan-result.ensures.begun
-    c.run_plan-result.ensures.ends c.run_plan-result.ensures.silent c.run_plan-result.ensures.cause c.run_plan-result.ensures.falls c.run_plan-result.ensures.others
+    plan_comes planned plan old new (status_in c.run_in_rounds-result.result.result) is c.in_ok-plan.ensures.accepted c.run_in_rounds-result.ensures.begun
+    c.run_in_rounds-result.ensures.ends c.run_in_rounds-result.ensures.silent c.run_in_rounds-result.ensures.cause c.run_in_rounds-result.ensures.falls c.run_in_rounds-result.ensures.others

@@ -35,8 +35,8 @@ returns-in_err-check_words g c =
     (args_comes planned now c.requires error
     (λ _. has_no_plan (under c.in_ok-args.args) (meaning (codes "forward") forward_options words) c.in_ok-args.ensures.told c.in_err-check_words.ensures.usage.1)) (args_before error)
 
-pub forward_plan-result-requires-clause-ready : goal.forward_plan-result-requires-clause-ready
-forward_plan-result-requires-clause-ready g c κs within = plan_ready (under c.in_ok-args.args) (plan_in c.in_ok-plan.plan) c.in_ok-check_words.ensures.passed c.in_ok-plan.ensures.plan c.in_ok-plan.ensures.accepted
+pub run_on_threads-result-requires-clause-ready : goal.run_on_threads-result-requires-clause-ready
+run_on_threads-result-requires-clause-ready g c κs within = plan_ready (under c.in_ok-args.args) (plan_in c.in_ok-plan.plan) c.in_ok-check_words.ensures.passed c.in_ok-plan.ensures.plan c.in_ok-plan.ensures.accepted
 
 pub returns-in_err-plan : goal.returns-in_err-plan
 returns-in_err-plan g c =
@@ -52,14 +52,14 @@ returns-in_err-plan g c =
 pub returns : goal.returns
 returns g c =
     let old : Moment = g.B.Bay.moment c.args.bay.now in
-    let new : Moment = g.B.Bay.moment c.forward_plan-result.new.bay in
+    let new : Moment = g.B.Bay.moment c.run_on_threads-result.new.bay in
     let words : List Text = map string_bytes c.args.words.now in
     let planned : Option Plan = forward_plan words in
     let plan : Plan = plan_in c.in_ok-plan.plan in
-    let left = c.forward_plan-result.result.left in
-    let status : Status = status_in c.forward_plan-result.result.result in
+    let left = c.run_on_threads-result.result.left in
+    let status : Status = status_in c.run_on_threads-result.result.result in
     let is : planned ≡ Some plan =
     has_plan (under c.in_ok-args.args) (meaning (codes "forward") forward_options words) c.in_ok-args.ensures.told c.in_ok-check_words.ensures.passed ∙ ap Some (sym c.in_ok-plan.ensures.plan) in
     subst (λ (s : Status). ComesTo (EndsShown left old new s) planned old new s) (sym c.status_of.ensures)
-    (plan_comes_to (EndsShown left old new status) planned plan old new status is c.in_ok-plan.ensures.accepted c.forward_plan-result.ensures.begun
-    c.forward_plan-result.ensures.ends c.forward_plan-result.ensures.silent c.forward_plan-result.ensures.cause c.forward_plan-result.ensures.falls c.forward_plan-result.ensures.others)
+    (plan_comes_to (EndsShown left old new status) planned plan old new status is c.in_ok-plan.ensures.accepted c.run_on_threads-result.ensures.begun
+    c.run_on_threads-result.ensures.ends c.run_on_threads-result.ensures.silent c.run_on_threads-result.ensures.cause c.run_on_threads-result.ensures.falls c.run_on_threads-result.ensures.others)
