@@ -1,1 +1,3 @@
 mod Resting
+pub mod Lists
+pub mod Writable

@@ -2,11 +2,13 @@
 ghost use Rattle.std.specs.Prelude.{◌≤◌, ◌<◌};
 
 use crate::hand::Known;
-use crate::reply::NOT_LEGAL;
+use crate::line::Line;
+use crate::noted::Board;
+use crate::object::Engine;
 use crate::stage::Stage;
-use crate::text::{push_all, push_number};
+use crate::told::Told;
 use crate::words::{Body, Move, Thing, read_thing};
-use std::alloc::Global;
+use std::alloc::{AllocError, Global};
 use std::string::String;
 use xsk_model::{Mark, Ring};
 use xsk_umem::{OutOfMemory, XdpDesc};
@@ -93,14 +95,14 @@ impl Tally {
         self.counts[kind] = self.counts[kind].saturating_add(1);
     }
 
-    /// Puts the numbers with their names behind a text.
-    fn push_to(&self, text: &mut String) -> Result<(), OutOfMemory> {
+    /// Tells the numbers with their names.
+    fn tell(&self, told: &mut Told) {
         for kind in 0..6 {
-            let gap = if kind == 0 { "" } else { ", " };
-            push_number(text, gap, u64::from(self.counts[kind]))?;
-            push_all(text, &[" ", KINDS[kind]])?;
+            told.say(if kind == 0 { "" } else { ", " });
+            told.number(self.counts[kind]);
+            told.say(" ");
+            told.say(KINDS[kind]);
         }
-        Ok(())
     }
 }
 
@@ -108,7 +110,7 @@ impl Tally {
 fn kind_of(words: &str) -> usize
     ensures { result < 6 }
 {
-    let word = words.split_whitespace().next().unwrap_or("");
+    let word = Line::new(words).next().unwrap_or("");
     for kind in 0..5 {
         if KINDS[kind] == word {
             return kind;
@@ -126,8 +128,12 @@ struct Taken {
 impl Taken {
     /// Takes the frames of a reply in.
     fn add(&mut self, known: &Known, who: u32, words: &str) -> Result<(), OutOfMemory> {
-        for word in words.split_whitespace() {
-            if let Some(thing) = read_thing(word) {
+        let mut line = Line::new(words);
+        for _ in 0..u64::MAX {
+            let Some(word) = line.next() else {
+                break;
+            };
+            if let Ok(thing) = read_thing(word) {
                 if let Some(number) = known.frame_of(thing) {
                     self.frames.push((who, number))?;
                 }
@@ -243,28 +249,34 @@ impl Game {
     }
 
     /// Draws a call of a caller, and tells whether it was legal.
-    fn makes_one(&mut self, stage: &mut Stage, who: u32) -> Result<bool, OutOfMemory> {
+    fn makes_one<E: Engine, B: Board>(
+        &mut self,
+        stage: &mut Stage<E, B>,
+        who: u32,
+    ) -> Result<bool, OutOfMemory> {
         let (made, count) = self.draw.made();
         let known = &stage.hand.known;
         let things = self.taken.things(stage.alloc, known, who, made, count)?;
         let reply = stage.make(who, made, things.as_slice(), false)?;
-        let words = reply.words.as_str();
-        let legal = words != NOT_LEGAL;
-        if legal {
+        if reply.legal {
             self.note(
                 stage.alloc,
                 &stage.hand.known,
                 who,
                 things.as_slice(),
-                words,
+                reply.words.as_str(),
             )?;
             stage.keep(who)?;
         }
-        Ok(legal)
+        Ok(reply.legal)
     }
 
     /// Draws calls of a caller until one is legal.
-    fn goes_on(&mut self, stage: &mut Stage, who: u32) -> Result<bool, OutOfMemory> {
+    fn goes_on<E: Engine, B: Board>(
+        &mut self,
+        stage: &mut Stage<E, B>,
+        who: u32,
+    ) -> Result<bool, OutOfMemory> {
         for _ in 0..TRIES {
             if self.makes_one(stage, who)? {
                 return Ok(true);
@@ -274,7 +286,11 @@ impl Game {
     }
 
     /// Makes so many legal calls, each by a caller that is drawn, and tells whether there were so many.
-    fn play(&mut self, stage: &mut Stage, calls: u32) -> Result<bool, OutOfMemory> {
+    fn play<E: Engine, B: Board>(
+        &mut self,
+        stage: &mut Stage<E, B>,
+        calls: u32,
+    ) -> Result<bool, OutOfMemory> {
         let callers = stage.object.config().callers().max(1);
         for _ in 0..calls {
             let who = self.draw.below(callers);
@@ -286,19 +302,19 @@ impl Game {
     }
 
     /// What is told of it.
-    fn told(&self, alloc: Global, legal: bool) -> Result<String, OutOfMemory> {
-        let mut text = String::new(alloc);
-        self.tally.push_to(&mut text)?;
+    fn told(&self, alloc: Global, legal: bool) -> Result<String, AllocError> {
+        let mut told = Told::new(alloc);
+        self.tally.tell(&mut told);
         if !legal {
-            text.push_str(" and no call is legal")?;
+            told.say(" and no call is legal");
         }
-        Ok(text)
+        told.into_text()
     }
 }
 
 /// So many legal calls, each by a caller that is drawn.
-pub(crate) fn drawn(
-    stage: &mut Stage,
+pub(crate) fn drawn<E: Engine, B: Board>(
+    stage: &mut Stage<E, B>,
     line: &str,
     seed: u64,
     calls: u32,
@@ -306,5 +322,6 @@ pub(crate) fn drawn(
     let mut game = Game::new(stage.alloc, seed);
     let legal = game.play(stage, calls)?;
     let text = game.told(stage.alloc, legal)?;
-    stage.say(line, text.as_str())
+    stage.say(line, text.as_str());
+    Ok(())
 }

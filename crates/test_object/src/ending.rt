@@ -1,28 +1,30 @@
 //! The end of a run: all lines of the log once more, and the frames that stand in rings.
 use crate::bytes;
 use crate::hand::Known;
+use crate::noted::Board;
+use crate::object::{Engine, walk};
 use crate::stage::Stage;
-use crate::text::push_number;
-use std::alloc::AllocError;
+use crate::told::Told;
 use std::string::String;
 use xsk_umem::{Frame, Frames, OutOfMemory};
 
 /// Tells the frames that an object gives up. A star stands behind one that was written, and a question mark behind one with
 /// other bytes.
-fn push_frames(text: &mut String, known: &Known, frames: Frames) -> Result<(), OutOfMemory> {
+fn tell_frames(known: &Known, frames: Frames, out: &mut Told) {
     let mut frames = frames;
-    text.push_str("left")?;
+    out.say("left");
     for _ in 0..frames.len() {
         if let Some(frame) = frames.pop_front() {
-            push_frame(text, known, &frame)?;
+            tell_frame(known, &frame, out);
         }
     }
-    Ok(text.push_str("\n")?)
+    out.say("\n");
 }
 
-fn push_frame(text: &mut String, known: &Known, frame: &Frame) -> Result<(), AllocError> {
-    push_number(text, " ", u64::from(frame.number()))?;
-    text.push_str(sign_of(known, frame))
+fn tell_frame(known: &Known, frame: &Frame, out: &mut Told) {
+    out.say(" ");
+    out.number(frame.number());
+    out.say(sign_of(known, frame));
 }
 
 fn sign_of(known: &Known, frame: &Frame) -> &'static str {
@@ -37,47 +39,31 @@ fn sign_of(known: &Known, frame: &Frame) -> &'static str {
 }
 
 /// Goes over the lines of all calls once more, which are those that were told.
-fn walk(stage: &mut Stage) -> Result<(), OutOfMemory> {
-    let (lines, callers) = stage.object.walk(stage.alloc)?;
+fn compare<E: Engine, B: Board>(stage: &mut Stage<E, B>) -> Result<(), OutOfMemory> {
+    let (lines, callers) = walk(&stage.object, stage.alloc)?;
     let same = lines.as_slice() == stage.lines.as_slice();
     let by_same = callers.as_slice() == stage.callers.as_slice();
     if !same || !by_same {
-        stage.print("  a walk tells other lines")?;
+        stage.print("  a walk tells other lines");
     }
     Ok(())
 }
 
-/// What is printed of a run.
-pub(crate) fn end(stage: Stage) -> Result<String, OutOfMemory> {
+/// What is printed of a run, with the frames that the object gives up, and those of the table if there is one.
+pub(crate) fn end<E: Engine, B: Board>(stage: Stage<E, B>) -> Result<String, OutOfMemory> {
     let mut stage = stage;
-    walk(&mut stage)?;
+    compare(&mut stage)?;
     let Stage {
         object,
         table,
         hand,
-        out,
+        mut out,
         ..
     } = stage;
-    let mine = object.close();
-    let theirs = match table {
-        Some(table) => Some(table.close()),
-        None => None,
-    };
-    told(out, &hand.known, mine, theirs)
-}
-
-/// What was printed, with the frames that the object gives up, and those of the table if there is one.
-fn told(
-    out: String,
-    known: &Known,
-    mine: Frames,
-    theirs: Option<Frames>,
-) -> Result<String, OutOfMemory> {
-    let mut out = out;
-    push_frames(&mut out, known, mine)?;
-    if let Some(frames) = theirs {
-        out.push_str("on the table ")?;
-        push_frames(&mut out, known, frames)?;
+    tell_frames(&hand.known, object.close(), &mut out);
+    if let Some(table) = table {
+        out.say("on the table ");
+        tell_frames(&hand.known, table.close(), &mut out);
     }
-    Ok(out)
+    Ok(out.into_text()?)
 }

@@ -1,18 +1,11 @@
 //! The frames that are out of all rings, of both engines.
 use crate::bytes;
-use crate::reply::{Asked, refusal_words, reply_words};
+use crate::reply::{Asked, words_of};
 use crate::words::{Body, Move, Thing};
 use std::alloc::Global;
 use std::string::String;
 use xsk_model::{Call, Reply};
 use xsk_umem::{Batch, Frame, Item, OutOfMemory};
-
-/// What an engine told, and whether all frames that it gave are the right ones with the right bytes.
-#[derive(Drop)]
-pub(crate) struct Told {
-    pub(crate) words: String,
-    pub(crate) fine: bool,
-}
 
 /// The frames of one engine that are out of its rings, by number.
 #[derive(Drop)]
@@ -172,30 +165,39 @@ impl Store {
         }
     }
 
-    /// Tells what came of a call, and keeps the frames that came with it.
+    fn put_reply(&mut self, known: &Known, reply: Reply) -> bool {
+        match reply {
+            Reply::Items(items) => self.put_items(known, items),
+            _ => true,
+        }
+    }
+
+    fn put_call(&mut self, known: &Known, call: Call) {
+        if let Call::Submit(_, items) = call {
+            self.put_items(known, items);
+        }
+    }
+
+    /// Keeps the frames that came with a reply, and tells whether they are the right ones.
+    fn put_all(&mut self, known: &Known, asked: Asked) -> bool {
+        match asked {
+            Asked::Made(reply) => self.put_reply(known, reply),
+            Asked::Refused(call, _) => {
+                self.put_call(known, call);
+                true
+            }
+        }
+    }
+
+    /// The words of what came of a call, whose frames are kept, and whether these are the right ones with the right bytes.
     pub(crate) fn settle(
         &mut self,
         alloc: Global,
         known: &Known,
         asked: Asked,
-    ) -> Result<Told, OutOfMemory> {
-        match asked {
-            Asked::Made(reply) => {
-                let words = reply_words(alloc, &reply)?;
-                let fine = match reply {
-                    Reply::Items(items) => self.put_items(known, items),
-                    _ => true,
-                };
-                Ok(Told { words, fine })
-            }
-            Asked::Refused(call, why) => {
-                if let Call::Submit(_, items) = call {
-                    self.put_items(known, items);
-                }
-                let words = refusal_words(alloc, why)?;
-                Ok(Told { words, fine: true })
-            }
-        }
+    ) -> Result<(String, bool), OutOfMemory> {
+        let words = words_of(alloc, &asked)?;
+        Ok((words, self.put_all(known, asked)))
     }
 }
 

@@ -6,6 +6,27 @@ use xsk_model::Call;
 use xsk_table::Note;
 use xsk_umem::Frames;
 
+/// A table on which calls are made, with two notes.
+pub(crate) trait Board: Drop {
+    /// Makes a call where it is legal, and tells the looks at the other side's count that it took.
+    fn ask(&mut self, who: u32, call: Call, anew: bool) -> (Asked, u32);
+
+    /// Takes a note, and tells whether there is such a caller.
+    fn note(&mut self, who: u32, late: bool) -> bool;
+
+    /// Lets a caller meet a note, and tells whether both were there.
+    fn meet(&mut self, who: u32, late: bool) -> bool;
+
+    /// The number of a caller's pass, if there is such a caller.
+    fn caller(&self, who: u32) -> Option<u32>;
+
+    /// Whether each caller's pass could be taken once, and no other.
+    fn lent_once(&self) -> bool;
+
+    /// Ends the table, and gives the frames that stand in rings.
+    fn close(self) -> Frames;
+}
+
 /// A table, and an early note and a late one.
 #[derive(Drop)]
 pub(crate) struct Noted {
@@ -33,14 +54,14 @@ impl Noted {
             late: None,
         }
     }
+}
 
-    /// Makes a call where it is legal, and tells the looks at the other side's count that it took.
-    pub(crate) fn ask(&mut self, who: u32, call: Call, anew: bool) -> (Asked, u32) {
+impl Board for Noted {
+    fn ask(&mut self, who: u32, call: Call, anew: bool) -> (Asked, u32) {
         self.table.ask(who, call, anew)
     }
 
-    /// Takes a note, and tells whether there is such a caller.
-    pub(crate) fn note(&mut self, who: u32, late: bool) -> bool {
+    fn note(&mut self, who: u32, late: bool) -> bool {
         let note = self.table.note(who);
         let taken = note.is_some();
         if late {
@@ -51,8 +72,7 @@ impl Noted {
         taken
     }
 
-    /// Lets a caller meet a note, and tells whether both were there.
-    pub(crate) fn meet(&mut self, who: u32, late: bool) -> bool {
+    fn meet(&mut self, who: u32, late: bool) -> bool {
         let note = if late {
             self.late.take()
         } else {
@@ -64,18 +84,15 @@ impl Noted {
         }
     }
 
-    /// The number of a caller's pass, if there is such a caller.
-    pub(crate) fn caller(&self, who: u32) -> Option<u32> {
+    fn caller(&self, who: u32) -> Option<u32> {
         self.table.caller(who)
     }
 
-    /// Whether each caller's pass could be taken once, and no other.
-    pub(crate) fn lent_once(&self) -> bool {
+    fn lent_once(&self) -> bool {
         self.table.lent_once()
     }
 
-    /// Ends the table, and gives the frames that stand in rings.
-    pub(crate) fn close(self) -> Frames {
+    fn close(self) -> Frames {
         let Noted { table, .. } = self;
         table.close()
     }

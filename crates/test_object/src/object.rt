@@ -6,12 +6,29 @@ use xsk_model::{Call, Config};
 use xsk_plain::{Checked, Plain, payload_room};
 use xsk_umem::{Frames, OutOfMemory};
 
-/// The engine that tells which calls are legal, and whether it is asked why one isn't, or the one that makes each call that can
-/// be made.
+/// An engine on one thread, on which the calls of a script are made.
+pub(crate) trait Engine: Drop {
+    fn config(&self) -> &Config;
+
+    fn log(&self) -> &Log;
+
+    fn lines(&self) -> Lines<'_>;
+
+    /// Makes a call where it is legal, or can be made.
+    fn ask(&mut self, who: u32, call: Call) -> Result<Asked, OutOfMemory>;
+
+    /// Puts the line of the last call, if there is one, in the buffer.
+    fn tell_last(&self, line: &mut LineBuffer);
+
+    /// The frames that stand in rings, ring by ring and in order.
+    fn close(self) -> Frames;
+}
+
+/// The engine that tells which calls are legal, and whether it is asked why one isn't.
 #[derive(Drop)]
-pub(crate) enum Object {
-    Checked(Checked, bool),
-    Plain(Plain),
+pub(crate) struct Judge {
+    pub(crate) checked: Checked,
+    pub(crate) asks_why: bool,
 }
 
 fn ask_checked(checked: &mut Checked, who: u32, call: Call) -> Result<Asked, OutOfMemory> {
@@ -32,86 +49,90 @@ fn ask_why(checked: &mut Checked, who: u32, call: Call) -> Result<Asked, OutOfMe
     }
 }
 
-fn ask_plain(plain: &mut Plain, who: u32, call: Call) -> Result<Asked, OutOfMemory> {
-    let _geometry = plain.config().geometry();
-    plain.reserve_log(1, payload_room(&call))?;
-    if !plain.can_perform(&call) {
-        return Ok(Asked::Refused(call, None));
-    }
-    Ok(Asked::Made(plain.perform(who, call)))
-}
-
-impl Object {
-    pub(crate) fn config(&self) -> &Config {
-        match self {
-            Object::Checked(checked, _) => checked.config(),
-            Object::Plain(plain) => plain.config(),
-        }
+impl Engine for Judge {
+    fn config(&self) -> &Config {
+        self.checked.config()
     }
 
-    pub(crate) fn log(&self) -> &Log {
-        match self {
-            Object::Checked(checked, _) => checked.log(),
-            Object::Plain(plain) => plain.log(),
-        }
+    fn log(&self) -> &Log {
+        self.checked.log()
     }
 
     fn lines(&self) -> Lines<'_> {
-        match self {
-            Object::Checked(checked, _) => checked.lines(),
-            Object::Plain(plain) => plain.lines(),
+        self.checked.lines()
+    }
+
+    fn ask(&mut self, who: u32, call: Call) -> Result<Asked, OutOfMemory> {
+        if self.asks_why {
+            ask_why(&mut self.checked, who, call)
+        } else {
+            ask_checked(&mut self.checked, who, call)
         }
     }
 
-    /// Makes a call where it is legal, or can be made.
-    pub(crate) fn ask(&mut self, who: u32, call: Call) -> Result<Asked, OutOfMemory> {
-        match self {
-            Object::Checked(checked, false) => ask_checked(checked, who, call),
-            Object::Checked(checked, true) => ask_why(checked, who, call),
-            Object::Plain(plain) => ask_plain(plain, who, call),
+    fn tell_last(&self, line: &mut LineBuffer) {
+        if let Some(last) = self.checked.log().len().checked_sub(1) {
+            self.checked.write_line(last, line);
         }
     }
 
-    /// The frames that stand in rings, ring by ring and in order.
-    pub(crate) fn close(self) -> Frames {
-        match self {
-            Object::Checked(checked, _) => checked.close(),
-            Object::Plain(plain) => plain.close(),
+    fn close(self) -> Frames {
+        let Judge { checked, .. } = self;
+        checked.close()
+    }
+}
+
+/// The engine that makes each call that can be made.
+impl Engine for Plain {
+    fn config(&self) -> &Config {
+        Plain::config(self)
+    }
+
+    fn log(&self) -> &Log {
+        Plain::log(self)
+    }
+
+    fn lines(&self) -> Lines<'_> {
+        Plain::lines(self)
+    }
+
+    fn ask(&mut self, who: u32, call: Call) -> Result<Asked, OutOfMemory> {
+        let _geometry = Plain::config(self).geometry();
+        self.reserve_log(1, payload_room(&call))?;
+        if !self.can_perform(&call) {
+            return Ok(Asked::Refused(call, None));
+        }
+        Ok(Asked::Made(self.perform(who, call)))
+    }
+
+    fn tell_last(&self, line: &mut LineBuffer) {
+        if let Some(last) = Plain::log(self).len().checked_sub(1) {
+            self.write_line(last, line);
         }
     }
 
-    /// Puts the line of the last call, if there is one, in the buffer.
-    pub(crate) fn tell_last(&self, line: &mut LineBuffer) {
-        match self {
-            Object::Checked(checked, _) => {
-                if let Some(last) = checked.log().len().checked_sub(1) {
-                    checked.write_line(last, line);
-                }
-            }
-            Object::Plain(plain) => {
-                if let Some(last) = plain.log().len().checked_sub(1) {
-                    plain.write_line(last, line);
-                }
-            }
-        }
+    fn close(self) -> Frames {
+        Plain::close(self)
     }
+}
 
-    /// The lines of all calls, one behind the other, and their callers. Behind the last one there is none, and the buffer
-    /// stays.
-    pub(crate) fn walk(&self, alloc: Global) -> Result<(Vec<u8>, Vec<u32>), OutOfMemory> {
-        let mut line = LineBuffer::new();
-        let mut text = Vec::new(alloc);
-        let mut callers = Vec::new(alloc);
-        let mut lines = self.lines();
-        for _ in 0..self.log().len() {
-            if let Some(who) = lines.write_next(&mut line) {
-                text.extend_from_slice(line.bytes())?;
-                callers.push(who)?;
-            }
-        }
-        if lines.write_next(&mut line).is_some() {
+/// The lines of all calls, one behind the other, and their callers. Behind the last one there is none, and the buffer stays.
+pub(crate) fn walk<E: Engine>(
+    engine: &E,
+    alloc: Global,
+) -> Result<(Vec<u8>, Vec<u32>), OutOfMemory> {
+    let mut line = LineBuffer::new();
+    let mut text = Vec::new(alloc);
+    let mut callers = Vec::new(alloc);
+    let mut lines = engine.lines();
+    for _ in 0..engine.log().len() {
+        if let Some(who) = lines.write_next(&mut line) {
             text.extend_from_slice(line.bytes())?;
+            callers.push(who)?;
         }
-        Ok((text, callers))
     }
+    if lines.write_next(&mut line).is_some() {
+        text.extend_from_slice(line.bytes())?;
+    }
+    Ok((text, callers))
 }

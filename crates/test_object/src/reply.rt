@@ -1,5 +1,5 @@
 //! What comes of a call, in words.
-use crate::text::{joined, push_number};
+use crate::told::Told;
 use std::alloc::{AllocError, Global};
 use std::string::String;
 use xsk_legal::Illegal;
@@ -13,50 +13,56 @@ pub(crate) enum Asked {
     Refused(Call, Option<Illegal>),
 }
 
-/// What is printed of a call that isn't legal.
-pub(crate) const NOT_LEGAL: &str = "not legal";
-
-/// What is told of a call that isn't legal.
-pub(crate) fn refusal_words(alloc: Global, why: Option<Illegal>) -> Result<String, AllocError> {
-    match why {
-        Some(why) => format!(in alloc; "{NOT_LEGAL}: {why}"),
-        None => joined(alloc, &[NOT_LEGAL]),
+pub(crate) fn is_made(asked: &Asked) -> bool {
+    match asked {
+        Asked::Made(_) => true,
+        Asked::Refused(..) => false,
     }
 }
 
-/// A reply in the words of a journal's line.
-pub(crate) fn reply_words(alloc: Global, reply: &Reply) -> Result<String, AllocError> {
-    let mut words = joined(alloc, &[name_of(reply)])?;
-    push_payload(&mut words, reply)?;
-    Ok(words)
+/// What came of a call: a reply in the words of a journal's line, or that it isn't legal.
+pub(crate) fn words_of(alloc: Global, asked: &Asked) -> Result<String, AllocError> {
+    let mut told = Told::new(alloc);
+    match asked {
+        Asked::Made(reply) => tell_reply(reply, &mut told),
+        Asked::Refused(_, why) => tell_refusal(why, &mut told),
+    }
+    told.into_text()
 }
 
-fn name_of(reply: &Reply) -> &'static str {
+fn tell_refusal(why: &Option<Illegal>, told: &mut Told) {
+    told.say("not legal");
+    if let Some(why) = why {
+        told.say(": ");
+        told.message(why);
+    }
+}
+
+fn tell_reply(reply: &Reply, told: &mut Told) {
     match reply {
-        Reply::Granted => "granted",
-        Reply::Full(_) => "full",
-        Reply::Submitted => "submitted",
-        Reply::Items(_) => "items",
-        Reply::Empty => "empty",
-        Reply::Released => "released",
-        Reply::Old(_) => "",
+        Reply::Granted => told.say("granted"),
+        Reply::Full(free) => tell_full(*free, told),
+        Reply::Submitted => told.say("submitted"),
+        Reply::Items(items) => tell_items(items, told),
+        Reply::Empty => told.say("empty"),
+        Reply::Released => told.say("released"),
+        Reply::Old(old) => told.long(*old),
     }
 }
 
-fn push_payload(words: &mut String, reply: &Reply) -> Result<(), AllocError> {
-    match reply {
-        Reply::Full(free) => push_number(words, " ", u64::from(*free)),
-        Reply::Items(items) => push_items(words, items),
-        Reply::Old(old) => push_number(words, "", *old),
-        _ => Ok(()),
-    }
+fn tell_full(free: u32, told: &mut Told) {
+    told.say("full ");
+    told.number(free);
 }
 
-fn push_items(words: &mut String, items: &Batch) -> Result<(), AllocError> {
+fn tell_items(items: &Batch, told: &mut Told) {
+    told.say("items");
     for item in items {
-        push_number(words, " ", item.desc.addr)?;
-        push_number(words, ":", u64::from(item.desc.len))?;
-        push_number(words, ":", u64::from(item.desc.options))?;
+        told.say(" ");
+        told.long(item.desc.addr);
+        told.say(":");
+        told.number(item.desc.len);
+        told.say(":");
+        told.number(item.desc.options);
     }
-    Ok(())
 }

@@ -2,14 +2,15 @@
 use crate::drawn::drawn;
 use crate::ending;
 use crate::hand::Hand;
-use crate::noted::Noted;
-use crate::object::Object;
-use crate::setup::Setup;
+use crate::line::{Fault, long_in};
+use crate::noted::{Board, Noted};
+use crate::object::{Engine, Judge};
+use crate::setup::read_setup;
 use crate::stage::Stage;
 use crate::step::{Plan, Step, read};
 use crate::table::Table;
-use crate::text::push_number;
-use crate::words::{Move, Who, large};
+use crate::told::Told;
+use crate::words::{Move, Who};
 use std::alloc::Global;
 use std::string::String;
 use xsk_model::Mark;
@@ -29,164 +30,155 @@ pub(crate) enum Makers {
     Plain,
 }
 
-/// The configuration with its frames twice, if the lines of a setup say one.
-fn setup_of(alloc: Global, lines: &[String]) -> Result<Option<Setup>, OutOfMemory> {
-    let mut setup = Setup::new(alloc);
-    for line in lines {
-        if !setup.take(alloc, line.as_str())? {
-            return Ok(None);
-        }
-    }
-    Ok(Some(setup))
-}
-
-fn plain_of(alloc: Global, setup: Setup) -> Option<Object> {
-    let (config, frames) = setup.make(alloc)?;
-    match Plain::open(alloc, config, frames) {
-        Ok(plain) => Some(Object::Plain(plain)),
-        Err(_) => None,
-    }
-}
-
-fn checked_of(alloc: Global, setup: Setup, asks_why: bool) -> Option<Object> {
-    let (config, frames) = setup.make(alloc)?;
+/// The object that tells which calls are legal, of a setup.
+fn judge_of(alloc: Global, lines: &[&str], asks_why: bool) -> Result<Judge, Fault> {
+    let (config, frames) = read_setup(alloc, lines)?;
     match Checked::open(alloc, config, frames) {
-        Ok(checked) => Some(Object::Checked(checked, asks_why)),
-        Err(_) => None,
+        Ok(checked) => Ok(Judge { checked, asks_why }),
+        Err(_) => Err(Fault::NotLegal),
     }
 }
 
-/// The object, if the lines of a setup say one.
-fn object_of(
-    alloc: Global,
-    lines: &[String],
-    makers: Makers,
-) -> Result<Option<Object>, OutOfMemory> {
-    let Some(setup) = setup_of(alloc, lines)? else {
-        return Ok(None);
-    };
-    Ok(match makers {
-        Makers::Plain => plain_of(alloc, setup),
-        Makers::Why => checked_of(alloc, setup, true),
-        Makers::Both(_) | Makers::Checked => checked_of(alloc, setup, false),
-    })
-}
-
-fn noted_of(alloc: Global, setup: Setup, first: u32) -> Option<Noted> {
-    let (config, frames) = setup.make(alloc)?;
-    Some(Noted::new(Table::open(alloc, config, frames, first)?))
-}
-
-/// The table, if the lines of a setup say one.
-fn table_of(alloc: Global, lines: &[String], first: u32) -> Result<Option<Noted>, OutOfMemory> {
-    match setup_of(alloc, lines)? {
-        Some(setup) => Ok(noted_of(alloc, setup, first)),
-        None => Ok(None),
+/// The object that makes each call that can be made, of a setup.
+fn plain_of(alloc: Global, lines: &[&str]) -> Result<Plain, Fault> {
+    let (config, frames) = read_setup(alloc, lines)?;
+    match Plain::open(alloc, config, frames) {
+        Ok(plain) => Ok(plain),
+        Err(_) => Err(Fault::NotLegal),
     }
 }
 
-/// Both engines, or one of them.
-fn open(alloc: Global, lines: &[String], makers: Makers) -> Result<Option<Stage>, OutOfMemory> {
-    let Makers::Both(first) = makers else {
-        return with_table(alloc, lines, makers, None);
-    };
-    match table_of(alloc, lines, first)? {
-        Some(table) => with_table(alloc, lines, makers, Some(table)),
-        None => Ok(None),
+/// The table of a setup.
+fn table_of(alloc: Global, lines: &[&str], first: u32) -> Result<Noted, Fault> {
+    let (config, frames) = read_setup(alloc, lines)?;
+    match Table::open(alloc, config, frames, first) {
+        Some(table) => Ok(Noted::new(table)),
+        None => Err(Fault::NotLegal),
     }
-}
-
-fn with_table(
-    alloc: Global,
-    lines: &[String],
-    makers: Makers,
-    table: Option<Noted>,
-) -> Result<Option<Stage>, OutOfMemory> {
-    match object_of(alloc, lines, makers)? {
-        Some(object) => Ok(Some(stage_of(alloc, object, table)?)),
-        None => Ok(None),
-    }
-}
-
-fn stage_of(alloc: Global, object: Object, table: Option<Noted>) -> Result<Stage, OutOfMemory> {
-    let geometry = object.config().geometry();
-    let hand = Hand::new(alloc, geometry.chunk(), geometry.frames())?;
-    Ok(Stage::new(alloc, object, table, hand))
 }
 
 /// What is printed of a run, if the setup is one.
 pub(crate) fn run(
     alloc: Global,
-    setup: &[String],
-    script: &[String],
+    setup: &[&str],
+    script: &[&str],
     makers: Makers,
-) -> Result<Option<String>, OutOfMemory> {
-    match open(alloc, setup, makers)? {
-        Some(stage) => Ok(Some(played(stage, script)?)),
-        None => Ok(None),
+) -> Result<String, Fault> {
+    match makers {
+        Makers::Both(first) => {
+            let table = table_of(alloc, setup, first)?;
+            judged(alloc, setup, script, false, Some(table))
+        }
+        Makers::Checked => judged(alloc, setup, script, false, None::<Noted>),
+        Makers::Why => judged(alloc, setup, script, true, None::<Noted>),
+        Makers::Plain => played(alloc, plain_of(alloc, setup)?, None::<Noted>, script),
     }
 }
 
-fn played(stage: Stage, script: &[String]) -> Result<String, OutOfMemory> {
-    let mut stage = stage;
-    play_all(&mut stage, script)?;
-    ending::end(stage)
+fn judged<B: Board>(
+    alloc: Global,
+    setup: &[&str],
+    script: &[&str],
+    asks_why: bool,
+    table: Option<B>,
+) -> Result<String, Fault> {
+    let judge = judge_of(alloc, setup, asks_why)?;
+    played(alloc, judge, table, script)
 }
 
-fn play_all(stage: &mut Stage, script: &[String]) -> Result<(), OutOfMemory> {
+/// What is printed of a script that is played on these engines.
+fn played<E: Engine, B: Board>(
+    alloc: Global,
+    object: E,
+    table: Option<B>,
+    script: &[&str],
+) -> Result<String, Fault> {
+    let geometry = object.config().geometry();
+    let hand = Hand::new(alloc, geometry.chunk(), geometry.frames())?;
+    let mut stage = Stage::new(alloc, object, table, hand);
+    play_all(&mut stage, script)?;
+    Ok(ending::end(stage)?)
+}
+
+fn play_all<E: Engine, B: Board>(
+    stage: &mut Stage<E, B>,
+    script: &[&str],
+) -> Result<(), OutOfMemory> {
     for line in script {
-        play(stage, line.as_str())?;
+        play(stage, line)?;
     }
     Ok(())
 }
 
 /// Plays a line.
-fn play(stage: &mut Stage, line: &str) -> Result<(), OutOfMemory> {
-    match read(stage.alloc, line)? {
-        Some(Step::Call(plan)) => call(stage, line, &plan),
-        Some(Step::Note(who, late)) => note(stage, line, who, late),
-        Some(Step::Meet(who, late)) => meet(stage, line, who, late),
-        Some(Step::Count(who, mark, most)) => count(stage, line, who, mark, most),
-        Some(Step::Drawn(seed, calls)) => drawn(stage, line, seed, calls),
-        Some(Step::Passes) => passes(stage, line),
-        None => stage.say(line, "can't be read"),
+fn play<E: Engine, B: Board>(stage: &mut Stage<E, B>, line: &str) -> Result<(), OutOfMemory> {
+    match read(stage.alloc, line) {
+        Ok(step) => make(stage, line, &step),
+        Err(Fault::OutOfMemory) => Err(OutOfMemory),
+        Err(_) => {
+            stage.say(line, "can't be read");
+            Ok(())
+        }
     }
 }
 
-fn call(stage: &mut Stage, line: &str, plan: &Plan) -> Result<(), OutOfMemory> {
+/// Makes a step.
+fn make<E: Engine, B: Board>(
+    stage: &mut Stage<E, B>,
+    line: &str,
+    step: &Step,
+) -> Result<(), OutOfMemory> {
+    match step {
+        Step::Call(plan) => return call(stage, line, plan),
+        Step::Note(who, late) => note(stage, line, *who, *late),
+        Step::Meet(who, late) => meet(stage, line, *who, *late),
+        Step::Count(who, mark, most) => return count(stage, line, *who, *mark, *most),
+        Step::Drawn(seed, calls) => return drawn(stage, line, *seed, *calls),
+        Step::Passes => return passes(stage, line),
+    }
+    Ok(())
+}
+
+fn call<E: Engine, B: Board>(
+    stage: &mut Stage<E, B>,
+    line: &str,
+    plan: &Plan,
+) -> Result<(), OutOfMemory> {
     let Some(who) = stage.caller(plan.who) else {
-        return stage.say(line, "no caller");
+        stage.say(line, "no caller");
+        return Ok(());
     };
     let made = stage.make(who, plan.made, plan.things.as_slice(), plan.anew)?;
     stage.tell(line, who, &made)
 }
 
-fn note(stage: &mut Stage, line: &str, who: Who, late: bool) -> Result<(), OutOfMemory> {
+fn note<E: Engine, B: Board>(stage: &mut Stage<E, B>, line: &str, who: Who, late: bool) {
     let taken = match (stage.caller(who), &mut stage.table) {
         (Some(who), Some(table)) => table.note(who, late),
         _ => false,
     };
-    stage.say(line, if taken { "taken" } else { "no caller" })
+    stage.say(line, if taken { "taken" } else { "no caller" });
 }
 
-fn meet(stage: &mut Stage, line: &str, who: Who, late: bool) -> Result<(), OutOfMemory> {
+fn meet<E: Engine, B: Board>(stage: &mut Stage<E, B>, line: &str, who: Who, late: bool) {
     let met = match (stage.caller(who), &mut stage.table) {
         (Some(who), Some(table)) => table.meet(who, late),
         _ => false,
     };
-    stage.say(line, if met { "met" } else { "no note" })
+    stage.say(line, if met { "met" } else { "no note" });
 }
 
 /// Sets a mark to 1, 2 and so on, each of which must tell the one before. The last line is printed.
-fn count(
-    stage: &mut Stage,
+fn count<E: Engine, B: Board>(
+    stage: &mut Stage<E, B>,
     line: &str,
     who: Who,
     mark: Mark,
     most: u64,
 ) -> Result<(), OutOfMemory> {
     let Some(who) = stage.caller(who) else {
-        return stage.say(line, "no caller");
+        stage.say(line, "no caller");
+        return Ok(());
     };
     for value in 1..=most {
         if !count_one(
@@ -204,8 +196,8 @@ fn count(
 }
 
 /// Makes such a call, and tells whether it told the value before.
-fn count_one(
-    stage: &mut Stage,
+fn count_one<E: Engine, B: Board>(
+    stage: &mut Stage<E, B>,
     line: &str,
     who: u32,
     swap: Move,
@@ -215,7 +207,7 @@ fn count_one(
     let made = stage.make(who, swap, &[], false)?;
     let is_next = is_behind(made.words.as_str(), value);
     if !is_next {
-        stage.say(line, made.words.as_str())?;
+        stage.say(line, made.words.as_str());
     } else if is_last {
         stage.tell(line, who, &made)?;
     } else {
@@ -226,11 +218,14 @@ fn count_one(
 
 /// Whether words are the number before a value.
 fn is_behind(words: &str, value: u64) -> bool {
-    large(words) == value.checked_sub(1)
+    match long_in(words) {
+        Ok(found) => value.checked_sub(1) == Some(found),
+        Err(_) => false,
+    }
 }
 
 /// Tells whether each caller has one pass, with its number, and no other has one.
-fn passes(stage: &mut Stage, line: &str) -> Result<(), OutOfMemory> {
+fn passes<E: Engine, B: Board>(stage: &mut Stage<E, B>, line: &str) -> Result<(), OutOfMemory> {
     let callers = stage.object.config().callers();
     let mut right = false;
     if let Some(table) = &stage.table {
@@ -239,9 +234,10 @@ fn passes(stage: &mut Stage, line: &str) -> Result<(), OutOfMemory> {
             right = right && table.caller(who) == Some(who);
         }
     }
-    let mut what = String::new(stage.alloc);
-    let told = if right { " once each" } else { " wrong" };
-    push_number(&mut what, "", u64::from(callers))?;
-    what.push_str(told)?;
-    stage.say(line, what.as_str())
+    let mut told = Told::new(stage.alloc);
+    told.number(callers);
+    told.say(if right { " once each" } else { " wrong" });
+    let text = told.into_text()?;
+    stage.say(line, text.as_str());
+    Ok(())
 }

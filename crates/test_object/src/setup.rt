@@ -1,16 +1,16 @@
 //! Setups: what the lines of one say, and the configuration with its frames where these are one.
-ghost use Rattle.std.specs.Prelude.{◌≡◌, IfSome};
+ghost use Rattle.std.specs.Prelude.{◌≡◌, IfOk};
 ghost use Rattle.xsk_model.specs.Config.{IsLawful};
 ghost use Rattle.xsk_model.specs.Opening.{AreFrames};
 
-use crate::words::{large, number};
-use std::alloc::{AllocError, Global};
+use crate::line::{Fault, Line, long_in, number_in};
+use std::alloc::Global;
 use xsk_model::{Config, PairInfo, SocketInfo, are_parts};
 use xsk_umem::{Frames, Geometry, Umem};
 
 /// What the lines of a setup say.
 #[derive(Drop)]
-pub(crate) struct Setup {
+struct Setup {
     frames: u32,
     chunk: u32,
     headroom: u32,
@@ -24,19 +24,8 @@ pub(crate) struct Setup {
     closing: Option<u32>,
 }
 
-/// A line of a setup.
-enum Part {
-    Umem(u32, u32, u32),
-    Device(u32, u32),
-    Pair(PairInfo),
-    Socket(SocketInfo),
-    Sg,
-    Wakeup,
-    Closing(u32),
-}
-
 impl Setup {
-    pub(crate) fn new(alloc: Global) -> Setup {
+    fn new(alloc: Global) -> Setup {
         Setup {
             frames: 0,
             chunk: 0,
@@ -52,135 +41,121 @@ impl Setup {
         }
     }
 
-    /// Takes a line in, and tells whether it could be read.
-    pub(crate) fn take(&mut self, alloc: Global, line: &str) -> Result<bool, AllocError> {
-        let words: Vec<&str> = line.split_whitespace().collect(alloc)?;
-        if let ["cells", rest @ ..] = words.as_slice() {
-            return self.take_cells(alloc, rest);
-        }
-        match read_part(words.as_slice()) {
-            Some(part) => self.put(part).map(|()| true),
-            None => Ok(false),
+    /// Takes a line in.
+    fn take(&mut self, alloc: Global, text: &str) -> Result<(), Fault> {
+        let mut line = Line::new(text);
+        let word = line.word()?;
+        self.set(alloc, word, &mut line)?;
+        match line.next() {
+            Some(_) => Err(Fault::BadLine),
+            None => Ok(()),
         }
     }
 
-    fn take_cells(&mut self, alloc: Global, words: &[&str]) -> Result<bool, AllocError> {
+    fn set(&mut self, alloc: Global, word: &str, line: &mut Line<'_>) -> Result<(), Fault> {
+        match word {
+            "umem" => self.set_umem(line),
+            "device" => self.set_device(line),
+            "pair" => self.add_pair(line),
+            "socket" => self.add_socket(line),
+            "cells" => self.add_cells(alloc, line),
+            _ => self.set_flag(word, line),
+        }
+    }
+
+    fn set_umem(&mut self, line: &mut Line<'_>) -> Result<(), Fault> {
+        self.frames = line.number()?;
+        self.chunk = line.number()?;
+        self.headroom = line.number()?;
+        Ok(())
+    }
+
+    fn set_device(&mut self, line: &mut Line<'_>) -> Result<(), Fault> {
+        self.ports = line.number()?;
+        self.queues = line.number()?;
+        Ok(())
+    }
+
+    fn add_pair(&mut self, line: &mut Line<'_>) -> Result<(), Fault> {
+        let (port, queue) = line.two()?;
+        let (fill, comp) = line.two()?;
+        self.pairs.push(PairInfo {
+            port,
+            queue,
+            fill,
+            comp,
+        })?;
+        Ok(())
+    }
+
+    fn add_socket(&mut self, line: &mut Line<'_>) -> Result<(), Fault> {
+        let (port, queue) = line.two()?;
+        let rx = size(line.word()?)?;
+        let tx = size(line.word()?)?;
+        self.sockets.push(SocketInfo {
+            port,
+            queue,
+            rx,
+            tx,
+        })?;
+        Ok(())
+    }
+
+    fn add_cells(&mut self, alloc: Global, line: &mut Line<'_>) -> Result<(), Fault> {
         let mut cells = Vec::new(alloc);
-        for word in words {
-            match large(word) {
-                Some(value) => cells.push(value)?,
-                None => return Ok(false),
-            }
-        }
+        push_all(&mut cells, line)?;
         self.cells.push(cells)?;
-        Ok(true)
+        Ok(())
     }
 
-    fn put(&mut self, part: Part) -> Result<(), AllocError> {
-        match part {
-            Part::Umem(frames, chunk, headroom) => {
-                self.frames = frames;
-                self.chunk = chunk;
-                self.headroom = headroom;
-            }
-            Part::Device(ports, queues) => {
-                self.ports = ports;
-                self.queues = queues;
-            }
-            Part::Pair(pair) => self.pairs.push(pair)?,
-            Part::Socket(socket) => self.sockets.push(socket)?,
-            Part::Sg => self.sg = true,
-            Part::Wakeup => self.wakeup = true,
-            Part::Closing(socket) => self.closing = Some(socket),
+    fn set_flag(&mut self, word: &str, line: &mut Line<'_>) -> Result<(), Fault> {
+        match word {
+            "sg" => self.sg = true,
+            "wakeup" => self.wakeup = true,
+            "closing" => self.closing = Some(line.number()?),
+            _ => return Err(Fault::BadLine),
         }
         Ok(())
     }
 }
 
-fn read_part(words: &[&str]) -> Option<Part> {
-    let (name, rest) = words.split_first()?;
-    match *name {
-        "umem" => read_umem(rest),
-        "device" => read_device(rest),
-        "pair" => read_pair(rest),
-        "socket" => read_socket(rest),
-        "sg" => Some(Part::Sg),
-        "wakeup" => Some(Part::Wakeup),
-        "closing" => read_closing(rest),
-        _ => None,
+/// Puts the numbers that are left behind others.
+fn push_all(numbers: &mut Vec<u64>, line: &mut Line<'_>) -> Result<(), Fault> {
+    for _ in 0..u64::MAX {
+        let Some(word) = line.next() else {
+            break;
+        };
+        numbers.push(long_in(word)?)?;
     }
-}
-
-fn read_umem(words: &[&str]) -> Option<Part> {
-    let [frames, chunk, headroom] = words else {
-        return None;
-    };
-    Some(Part::Umem(number(frames)?, number(chunk)?, number(headroom)?))
-}
-
-fn read_device(words: &[&str]) -> Option<Part> {
-    let [ports, queues] = words else {
-        return None;
-    };
-    Some(Part::Device(number(ports)?, number(queues)?))
-}
-
-fn read_pair(words: &[&str]) -> Option<Part> {
-    let [port, queue, fill, comp] = words else {
-        return None;
-    };
-    Some(Part::Pair(PairInfo {
-        port: number(port)?,
-        queue: number(queue)?,
-        fill: number(fill)?,
-        comp: number(comp)?,
-    }))
-}
-
-fn read_socket(words: &[&str]) -> Option<Part> {
-    let [port, queue, rx, tx] = words else {
-        return None;
-    };
-    Some(Part::Socket(SocketInfo {
-        port: number(port)?,
-        queue: number(queue)?,
-        rx: size(rx)?,
-        tx: size(tx)?,
-    }))
-}
-
-fn read_closing(words: &[&str]) -> Option<Part> {
-    let [socket] = words else {
-        return None;
-    };
-    Some(Part::Closing(number(socket)?))
+    Ok(())
 }
 
 /// The size of a ring, or `-` where there is none.
-fn size(word: &str) -> Option<Option<u32>> {
+fn size(word: &str) -> Result<Option<u32>, Fault> {
     if word == "-" {
-        return Some(None);
+        return Ok(None);
     }
-    Some(Some(number(word)?))
+    Ok(Some(number_in(word)?))
 }
 
-/// The configuration with a socket to close, if it is one.
-fn with_closing(config: Config, socket: u32) -> Option<Config>
-    ensures { IfSome result (λ closing. closing.geometry ≡ config.geometry) }
+/// Sets the socket to close, if there is one with both rings.
+fn close(config: &mut Config, socket: u32) -> bool
+    ensures { config.new.geometry ≡ config.old.geometry }
 {
-    let mut config = config;
-    let info = config.sockets().get(socket as usize)?;
+    let Some(info) = config.sockets().get(socket as usize) else {
+        return false;
+    };
     if info.rx.is_none() || info.tx.is_none() {
-        return None;
+        return false;
     }
     config.set_closing(socket);
-    Some(config)
+    true
 }
 
 impl Setup {
     /// The configuration, if it is one.
-    fn config(self, geometry: Geometry) -> Option<Config>
-        ensures { IfSome result (λ config. config.geometry ≡ geometry) }
+    fn config(self, geometry: Geometry) -> Result<Config, Fault>
+        ensures { IfOk result (λ config. config.geometry ≡ geometry) }
     {
         let Setup {
             ports,
@@ -200,37 +175,58 @@ impl Setup {
             pairs.as_slice(),
             cells.as_slice(),
         ) {
-            return None;
+            return Err(Fault::NotLegal);
         }
-        let config = Config::of_parts(geometry, ports, queues, sockets, pairs, cells, sg, wakeup);
-        match closing {
-            Some(socket) => with_closing(config, socket),
-            None => Some(config),
+        let mut config = Config::of_parts(
+            geometry, ports, queues, sockets, pairs, cells, sg, wakeup,
+        );
+        if let Some(socket) = closing {
+            if !close(&mut config, socket) {
+                return Err(Fault::NotLegal);
+            }
         }
+        Ok(config)
     }
 
     /// The configuration with these frames, if it is lawful.
-    fn lawful(self, geometry: Geometry, frames: Frames) -> Option<(Config, Frames)>
+    fn lawful(self, geometry: Geometry, frames: Frames) -> Result<(Config, Frames), Fault>
         requires { AreFrames geometry frames.items }
-        ensures lawful { IfSome result (λ made. IsLawful made.0) }
-        ensures frames { IfSome result (λ made. AreFrames made.0.geometry made.1.items) }
+        ensures lawful { IfOk result (λ made. IsLawful made.0) }
+        ensures frames { IfOk result (λ made. AreFrames made.0.geometry made.1.items) }
     {
         let config = self.config(geometry)?;
         if !config.lawful() {
-            return None;
+            return Err(Fault::NotLegal);
         }
-        Some((config, frames))
+        Ok((config, frames))
     }
 
     /// The configuration with its frames, if it is lawful.
-    pub(crate) fn make(self, alloc: Global) -> Option<(Config, Frames)>
-        ensures lawful { IfSome result (λ made. IsLawful made.0) }
-        ensures frames { IfSome result (λ made. AreFrames made.0.geometry made.1.items) }
+    fn make(self, alloc: Global) -> Result<(Config, Frames), Fault>
+        ensures lawful { IfOk result (λ made. IsLawful made.0) }
+        ensures frames { IfOk result (λ made. AreFrames made.0.geometry made.1.items) }
     {
         let len = u64::from(self.frames) * u64::from(self.chunk);
         match Umem::register(alloc, len, self.chunk, self.headroom) {
             Ok((geometry, frames)) => self.lawful(geometry, frames),
-            Err(_) => None,
+            Err(_) => Err(Fault::NotLegal),
         }
     }
+}
+
+/// What the lines of a setup say, if each can be read.
+fn setup_of(alloc: Global, lines: &[&str]) -> Result<Setup, Fault> {
+    let mut setup = Setup::new(alloc);
+    for line in lines {
+        setup.take(alloc, line)?;
+    }
+    Ok(setup)
+}
+
+/// The configuration with its frames that the lines of a setup say.
+pub(crate) fn read_setup(alloc: Global, lines: &[&str]) -> Result<(Config, Frames), Fault>
+    ensures lawful { IfOk result (λ made. IsLawful made.0) }
+    ensures frames { IfOk result (λ made. AreFrames made.0.geometry made.1.items) }
+{
+    setup_of(alloc, lines)?.make(alloc)
 }

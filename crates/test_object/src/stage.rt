@@ -1,11 +1,11 @@
 //! Both engines with the frames that are out of their rings, and what is told of their calls.
-use crate::hand::{Hand, Told};
-use crate::noted::Noted;
-use crate::object::Object;
-use crate::reply::NOT_LEGAL;
-use crate::text::push_all;
+use crate::hand::Hand;
+use crate::noted::Board;
+use crate::object::Engine;
+use crate::reply::is_made;
+use crate::told::Told;
 use crate::words::{Move, Thing, Who};
-use std::alloc::{AllocError, Global};
+use std::alloc::Global;
 use std::str;
 use std::string::String;
 use xsk_log::LineBuffer;
@@ -16,45 +16,49 @@ use xsk_umem::OutOfMemory;
 #[derive(Drop)]
 pub(crate) struct Made {
     pub(crate) words: String,
+    pub(crate) legal: bool,
     pub(crate) looks: u32,
 }
 
 #[derive(Drop)]
-pub(crate) struct Stage {
+pub(crate) struct Stage<E, B> {
     pub(crate) alloc: Global,
-    pub(crate) object: Object,
+    pub(crate) object: E,
     /// Where the object makes calls that aren't legal, there is no table.
-    pub(crate) table: Option<Noted>,
+    pub(crate) table: Option<B>,
     pub(crate) hand: Hand,
     /// All that is printed.
-    pub(crate) out: String,
+    pub(crate) out: Told,
     /// The lines of the log and their callers.
     pub(crate) lines: Vec<u8>,
     pub(crate) callers: Vec<u32>,
     buffer: LineBuffer,
 }
 
-impl Stage {
-    pub(crate) fn new(alloc: Global, object: Object, table: Option<Noted>, hand: Hand) -> Stage {
+impl<E: Engine, B: Board> Stage<E, B> {
+    pub(crate) fn new(alloc: Global, object: E, table: Option<B>, hand: Hand) -> Stage<E, B> {
         Stage {
             alloc,
             object,
             table,
             hand,
-            out: String::new(alloc),
+            out: Told::new(alloc),
             lines: Vec::new(alloc),
             callers: Vec::new(alloc),
             buffer: LineBuffer::new(),
         }
     }
 
-    pub(crate) fn print(&mut self, text: &str) -> Result<(), OutOfMemory> {
-        Ok(push_all(&mut self.out, &[text, "\n"])?)
+    pub(crate) fn print(&mut self, text: &str) {
+        self.out.say(text);
+        self.out.say("\n");
     }
 
     /// Prints a line of the script and what is told of it.
-    pub(crate) fn say(&mut self, line: &str, what: &str) -> Result<(), OutOfMemory> {
-        Ok(push_all(&mut self.out, &[line, ": ", what, "\n"])?)
+    pub(crate) fn say(&mut self, line: &str, what: &str) {
+        self.out.say(line);
+        self.out.say(": ");
+        self.print(what);
     }
 
     /// The number of a caller.
@@ -66,21 +70,24 @@ impl Stage {
         }
     }
 
-    /// Makes a call on the object, and gives the words of what came of it.
+    /// Makes a call on the object, and gives the words of what came of it, and whether it was made.
     fn ask_object(
         &mut self,
         who: u32,
         made: Move,
         things: &[Thing],
-    ) -> Result<String, OutOfMemory> {
+    ) -> Result<(String, bool), OutOfMemory> {
         let call = self
             .hand
             .mine
             .call(self.alloc, &self.hand.known, made, things);
         let asked = self.object.ask(who, call)?;
-        let told = self.hand.mine.settle(self.alloc, &self.hand.known, asked)?;
-        self.tell_fine(told.fine, "  other frames or bytes")?;
-        Ok(told.words)
+        let legal = is_made(&asked);
+        let (words, fine) = self.hand.mine.settle(self.alloc, &self.hand.known, asked)?;
+        if !fine {
+            self.print("  other frames or bytes");
+        }
+        Ok((words, legal))
     }
 
     /// Makes it on the table, if there is one, and gives the looks that it took. It is printed where other words came of it.
@@ -100,11 +107,11 @@ impl Stage {
             .theirs
             .call(self.alloc, &self.hand.known, made, things);
         let (asked, looks) = table.ask(who, call, anew);
-        let told = self
+        let (other, fine) = self
             .hand
             .theirs
             .settle(self.alloc, &self.hand.known, asked)?;
-        self.compare(words, &told)?;
+        self.compare(words, other.as_str(), fine);
         Ok(looks)
     }
 
@@ -119,35 +126,35 @@ impl Stage {
         if let Move::Submit(Ring::Rx(_)) = made {
             self.hand.write(things);
         }
-        let words = self.ask_object(who, made, things)?;
+        let (words, legal) = self.ask_object(who, made, things)?;
         let looks = self.ask_table(who, made, things, anew, words.as_str())?;
-        Ok(Made { words, looks })
+        Ok(Made {
+            words,
+            legal,
+            looks,
+        })
     }
 
-    fn tell_fine(&mut self, fine: bool, otherwise: &str) -> Result<(), OutOfMemory> {
-        if fine {
-            return Ok(());
+    /// Prints where other words came of a call on the table, or a frame isn't the right one.
+    fn compare(&mut self, words: &str, other: &str, fine: bool) {
+        if !fine {
+            self.print("  other frames or bytes on the table");
         }
-        self.print(otherwise)
-    }
-
-    fn compare(&mut self, words: &str, found: &Told) -> Result<(), OutOfMemory> {
-        self.tell_fine(found.fine, "  other frames or bytes on the table")?;
-        let other = found.words.as_str();
-        if other == words {
-            return Ok(());
+        if other != words {
+            self.print("  on the table:");
+            self.print(other);
         }
-        Ok(push_all(&mut self.out, &["  on the table:\n", other, "\n"])?)
     }
 
     /// Prints what came of a call, by the log's line of it.
     pub(crate) fn tell(&mut self, line: &str, who: u32, made: &Made) -> Result<(), OutOfMemory> {
-        let words = made.words.as_str();
-        if words.starts_with(NOT_LEGAL) {
-            return self.say(line, words);
+        if !made.legal {
+            self.say(line, made.words.as_str());
+            return Ok(());
         }
         self.keep(who)?;
-        Ok(push_made(&mut self.out, last_line(&self.buffer), made)?)
+        tell_made(last_line(&self.buffer), made, &mut self.out);
+        Ok(())
     }
 
     /// Keeps the line of a call that was made.
@@ -158,20 +165,19 @@ impl Stage {
     }
 }
 
-/// Puts the log's line of a call behind a text.
-fn push_made(text: &mut String, line: &str, made: &Made) -> Result<(), AllocError> {
-    let looks = if made.looks == 0 { "" } else { " (1 look)" };
-    push_all(text, &[line, looks, "\n"])?;
-    if made.looks <= 1 && line.ends_with(made.words.as_str()) {
-        return Ok(());
+/// Tells the log's line of a call.
+fn tell_made(line: &str, made: &Made, out: &mut Told) {
+    out.say(line);
+    out.say(if made.looks == 0 { "\n" } else { " (1 look)\n" });
+    if made.looks > 1 || !line.ends_with(made.words.as_str()) {
+        out.say("  another reply or more looks\n");
     }
-    text.push_str("  another reply or more looks\n")
 }
 
 /// The line that the buffer has, without its line feed.
 fn last_line(buffer: &LineBuffer) -> &str {
     match str::from_utf8(buffer.bytes()) {
-        Ok(line) => line.trim_end(),
+        Ok(line) => line.strip_suffix("\n").unwrap_or(line),
         Err(_) => "no text",
     }
 }

@@ -1,6 +1,7 @@
 //! The lines of a script.
-use crate::words::{Move, Thing, Who, large, mark, number, read_thing, read_who, ring};
-use std::alloc::{AllocError, Global};
+use crate::line::{Fault, Line, long_in, number_in};
+use crate::words::{Move, Place, Thing, Who, read_place, read_thing, read_who};
+use std::alloc::Global;
 use xsk_model::{Mark, Ring};
 
 /// A call that is to be made, with its items.
@@ -29,137 +30,122 @@ pub(crate) enum Step {
     Passes,
 }
 
-/// What a line says, and none where it says nothing.
-pub(crate) fn read(alloc: Global, line: &str) -> Result<Option<Step>, AllocError> {
-    let words: Vec<&str> = line.split_whitespace().collect(alloc)?;
-    read_words(alloc, words.as_slice())
-}
-
-fn read_words(alloc: Global, words: &[&str]) -> Result<Option<Step>, AllocError> {
-    let Some((name, rest)) = words.split_first() else {
-        return Ok(None);
-    };
-    if *name == "anew" {
-        return call(alloc, rest, true);
-    }
-    match named(name, rest) {
-        Some(step) => Ok(Some(step)),
-        None => call(alloc, words, false),
+/// What a line says.
+pub(crate) fn read(alloc: Global, text: &str) -> Result<Step, Fault> {
+    let mut line = Line::new(text);
+    let word = line.word()?;
+    match word {
+        "passes" => Ok(Step::Passes),
+        "note" => read_note(line),
+        "meet" => read_meet(line),
+        "drawn" => read_drawn(line),
+        "count" => read_count(line),
+        "anew" => read_call(alloc, line, true),
+        _ => read_call(alloc, Line::new(text), false),
     }
 }
 
-/// A step that begins with its name.
-fn named(name: &str, words: &[&str]) -> Option<Step> {
-    match name {
-        "passes" => Some(Step::Passes),
-        "note" => noted(words, false),
-        "meet" => noted(words, true),
-        "drawn" => drawn(words),
-        "count" => counted(words),
-        _ => None,
-    }
+fn read_note(line: Line<'_>) -> Result<Step, Fault> {
+    let mut line = line;
+    let who = read_who(line.word()?)?;
+    Ok(Step::Note(who, is_late(last(line)?)?))
 }
 
-fn noted(words: &[&str], meets: bool) -> Option<Step> {
-    let [name, time] = words else {
-        return None;
-    };
-    let who = read_who(name)?;
-    let late = is_late(time)?;
-    if meets {
-        Some(Step::Meet(who, late))
-    } else {
-        Some(Step::Note(who, late))
-    }
+fn read_meet(line: Line<'_>) -> Result<Step, Fault> {
+    let mut line = line;
+    let who = read_who(line.word()?)?;
+    Ok(Step::Meet(who, is_late(last(line)?)?))
 }
 
-fn is_late(time: &str) -> Option<bool> {
+fn is_late(time: &str) -> Result<bool, Fault> {
     match time {
-        "early" => Some(false),
-        "late" => Some(true),
-        _ => None,
+        "early" => Ok(false),
+        "late" => Ok(true),
+        _ => Err(Fault::BadLine),
     }
 }
 
-fn drawn(words: &[&str]) -> Option<Step> {
-    let [seed, calls] = words else {
-        return None;
-    };
-    Some(Step::Drawn(large(seed)?, number(calls)?))
+fn read_drawn(line: Line<'_>) -> Result<Step, Fault> {
+    let mut line = line;
+    let seed = line.long()?;
+    Ok(Step::Drawn(seed, number_in(last(line)?)?))
 }
 
-fn counted(words: &[&str]) -> Option<Step> {
-    let [name, place, most] = words else {
-        return None;
-    };
-    Some(Step::Count(read_who(name)?, mark(place)?, large(most)?))
+fn read_count(line: Line<'_>) -> Result<Step, Fault> {
+    let mut line = line;
+    let who = read_who(line.word()?)?;
+    match read_place(line.word()?)? {
+        Place::Mark(mark) => Ok(Step::Count(who, mark, long_in(last(line)?)?)),
+        Place::Ring(_) => Err(Fault::BadLine),
+    }
 }
 
-fn call(alloc: Global, words: &[&str], anew: bool) -> Result<Option<Step>, AllocError> {
-    let [name, verb, place, rest @ ..] = words else {
-        return Ok(None);
+fn read_call(alloc: Global, line: Line<'_>, anew: bool) -> Result<Step, Fault> {
+    let mut line = line;
+    let who = read_who(line.word()?)?;
+    let verb = line.word()?;
+    let made = match read_place(line.word()?)? {
+        Place::Ring(ring) => on_ring(verb, ring, line)?,
+        Place::Mark(mark) => on_mark(verb, mark, line)?,
     };
-    let (Some(who), Some(made)) = (read_who(name), made(verb, place, only(rest))) else {
-        return Ok(None);
-    };
-    let Some(things) = things_of(alloc, made, rest)? else {
-        return Ok(None);
-    };
-    Ok(Some(Step::Call(Plan {
+    let things = things_of(alloc, made, line)?;
+    Ok(Step::Call(Plan {
         who,
         made,
         things,
         anew,
-    })))
+    }))
 }
 
-/// The items of a call, if each can be read: of a Submit those that its words say, and of any other none.
-fn things_of(alloc: Global, made: Move, words: &[&str]) -> Result<Option<Vec<Thing>>, AllocError> {
+/// The items of a call: of a Submit those that the words left say, and of any other none.
+fn things_of(alloc: Global, made: Move, line: Line<'_>) -> Result<Vec<Thing>, Fault> {
     let mut things = Vec::new(alloc);
     if let Move::Submit(_) = made {
-        for word in words {
-            let Some(thing) = read_thing(word) else {
-                return Ok(None);
-            };
-            things.push(thing)?;
-        }
+        push_things(&mut things, line)?;
     }
-    Ok(Some(things))
+    Ok(things)
 }
 
-/// A call on a ring or on a mark, with the number behind it where it needs one.
-fn made(verb: &str, place: &str, value: Option<u64>) -> Option<Move> {
-    match ring(place) {
-        Some(ring) => on_ring(verb, ring, value),
-        None => on_mark(verb, mark(place)?, value),
+fn push_things(things: &mut Vec<Thing>, line: Line<'_>) -> Result<(), Fault> {
+    let mut line = line;
+    for _ in 0..u64::MAX {
+        let Some(word) = line.next() else {
+            break;
+        };
+        things.push(read_thing(word)?)?;
     }
+    Ok(())
 }
 
-fn on_ring(verb: &str, ring: Ring, value: Option<u64>) -> Option<Move> {
+/// A call on a ring, with the number behind it where it needs one.
+fn on_ring(verb: &str, ring: Ring, line: Line<'_>) -> Result<Move, Fault> {
     if verb == "submit" {
-        return Some(Move::Submit(ring));
+        return Ok(Move::Submit(ring));
     }
-    let count = u32::try_from(value?).ok()?;
+    let count = number_in(last(line)?)?;
     match verb {
-        "reserve" => Some(Move::Reserve(ring, count)),
-        "peek" => Some(Move::Peek(ring, count)),
-        "release" => Some(Move::Release(ring, count)),
-        _ => None,
+        "reserve" => Ok(Move::Reserve(ring, count)),
+        "peek" => Ok(Move::Peek(ring, count)),
+        "release" => Ok(Move::Release(ring, count)),
+        _ => Err(Fault::BadLine),
     }
 }
 
-fn on_mark(verb: &str, mark: Mark, value: Option<u64>) -> Option<Move> {
+/// A call on a mark, with the value behind it where it needs one.
+fn on_mark(verb: &str, mark: Mark, line: Line<'_>) -> Result<Move, Fault> {
     match verb {
-        "swap" => Some(Move::Swap(mark, value?)),
-        "look" => Some(Move::Look(mark)),
-        _ => None,
+        "swap" => Ok(Move::Swap(mark, long_in(last(line)?)?)),
+        "look" => Ok(Move::Look(mark)),
+        _ => Err(Fault::BadLine),
     }
 }
 
-/// The number that is left, if it is the only word.
-fn only(words: &[&str]) -> Option<u64> {
-    match words {
-        [word] => large(word),
-        _ => None,
+/// The word that is left, which must be the last one.
+fn last<'a>(line: Line<'a>) -> Result<&'a str, Fault> {
+    let mut line = line;
+    let word = line.word()?;
+    match line.next() {
+        Some(_) => Err(Fault::BadLine),
+        None => Ok(word),
     }
 }

@@ -1,4 +1,5 @@
-//! Words of a line: numbers, rings, marks and items, as a journal has them.
+//! Words of a line: callers, rings, marks and items, as a journal has them.
+use crate::line::{Fault, long_in, number_in};
 use xsk_model::{Mark, Ring};
 use xsk_umem::XdpDesc;
 
@@ -36,30 +37,47 @@ pub(crate) enum Move {
     Look(Mark),
 }
 
-pub(crate) fn large(word: &str) -> Option<u64> {
-    word.parse::<u64>().ok()
+/// What a call is on.
+#[derive(Clone, Copy)]
+pub(crate) enum Place {
+    Ring(Ring),
+    Mark(Mark),
 }
 
-pub(crate) fn number(word: &str) -> Option<u32> {
-    u32::try_from(large(word)?).ok()
-}
-
-/// The words before and behind the last sign of a kind.
-fn halves(word: &str, sign: char) -> Option<(&str, &str)> {
-    word.rsplit_once(sign)
+/// The words before and behind the first sign of a kind.
+fn halves<'a>(word: &'a str, sign: &str) -> Result<(&'a str, &'a str), Fault> {
+    match word.split_once(sign) {
+        Some(halves) => Ok(halves),
+        None => Err(Fault::BadLine),
+    }
 }
 
 /// `d0` is the first driver, and `a0` the first application.
-pub(crate) fn read_who(word: &str) -> Option<Who> {
+pub(crate) fn read_who(word: &str) -> Result<Who, Fault> {
     if let Some(driver) = word.strip_prefix("d") {
-        return Some(Who::Driver(number(driver)?));
+        return Ok(Who::Driver(number_in(driver)?));
     }
-    Some(Who::App(number(word.strip_prefix("a")?)?))
+    match word.strip_prefix("a") {
+        Some(app) => Ok(Who::App(number_in(app)?)),
+        None => Err(Fault::BadLine),
+    }
 }
 
-pub(crate) fn ring(word: &str) -> Option<Ring> {
-    let (kind, rest) = halves(word, '.')?;
-    ring_of(kind, number(rest)?)
+/// `fill.0`, `need.tx.1` or `cell.1.0`.
+pub(crate) fn read_place(word: &str) -> Result<Place, Fault> {
+    let (kind, rest) = halves(word, ".")?;
+    match kind {
+        "cell" => Ok(Place::Mark(cell_of(rest)?)),
+        "need" => Ok(Place::Mark(need_of(rest)?)),
+        _ => place_of(kind, number_in(rest)?),
+    }
+}
+
+fn place_of(kind: &str, index: u32) -> Result<Place, Fault> {
+    match ring_of(kind, index) {
+        Some(ring) => Ok(Place::Ring(ring)),
+        None => Ok(Place::Mark(mark_of(kind, index)?)),
+    }
 }
 
 fn ring_of(kind: &str, index: u32) -> Option<Ring> {
@@ -72,53 +90,57 @@ fn ring_of(kind: &str, index: u32) -> Option<Ring> {
     }
 }
 
-pub(crate) fn mark(word: &str) -> Option<Mark> {
-    let (kind, rest) = halves(word, '.')?;
-    let index = number(rest)?;
-    match kind.strip_prefix("cell.") {
-        Some(port) => Some(Mark::Cell(number(port)?, index)),
-        None => mark_of(kind, index),
+/// The cell of a port and a place.
+fn cell_of(word: &str) -> Result<Mark, Fault> {
+    let (port, index) = halves(word, ".")?;
+    Ok(Mark::Cell(number_in(port)?, number_in(index)?))
+}
+
+fn need_of(word: &str) -> Result<Mark, Fault> {
+    let (kind, rest) = halves(word, ".")?;
+    let index = number_in(rest)?;
+    match kind {
+        "fill" => Ok(Mark::NeedFill(index)),
+        "tx" => Ok(Mark::NeedTx(index)),
+        _ => Err(Fault::BadLine),
     }
 }
 
-fn mark_of(kind: &str, index: u32) -> Option<Mark> {
+fn mark_of(kind: &str, index: u32) -> Result<Mark, Fault> {
     match kind {
-        "need.fill" => Some(Mark::NeedFill(index)),
-        "need.tx" => Some(Mark::NeedTx(index)),
-        "kick" => Some(Mark::Kick(index)),
-        "rxdone" => Some(Mark::RxDone(index)),
-        "gone" => Some(Mark::Gone(index)),
-        "txdone" => Some(Mark::TxDone(index)),
-        "closing" => Some(Mark::Closing(index)),
-        "acked" => Some(Mark::Acked(index)),
-        "bounced" => Some(Mark::Bounced(index)),
-        _ => None,
+        "kick" => Ok(Mark::Kick(index)),
+        "rxdone" => Ok(Mark::RxDone(index)),
+        "gone" => Ok(Mark::Gone(index)),
+        "txdone" => Ok(Mark::TxDone(index)),
+        "closing" => Ok(Mark::Closing(index)),
+        "acked" => Ok(Mark::Acked(index)),
+        "bounced" => Ok(Mark::Bounced(index)),
+        _ => Err(Fault::BadLine),
     }
 }
 
 /// `256:60:0` is an item in the frame of its address, `3@256:60:0` one in frame 3, and `-@256:60:0` one without a frame.
-pub(crate) fn read_thing(word: &str) -> Option<Thing> {
-    let (body, desc) = match halves(word, '@') {
-        Some((body, desc)) => (body_of(body)?, desc),
-        None => (Body::Addressed, word),
-    };
-    let desc = desc_of(desc)?;
-    Some(Thing { body, desc })
-}
-
-fn body_of(word: &str) -> Option<Body> {
-    if word == "-" {
-        return Some(Body::Without);
+pub(crate) fn read_thing(word: &str) -> Result<Thing, Fault> {
+    match word.split_once("@") {
+        Some((body, desc)) => thing_of(body_of(body)?, desc),
+        None => thing_of(Body::Addressed, word),
     }
-    Some(Body::Number(number(word)?))
 }
 
-fn desc_of(word: &str) -> Option<XdpDesc> {
-    let (rest, options) = halves(word, ':')?;
-    let (addr, len) = halves(rest, ':')?;
-    Some(XdpDesc {
-        addr: large(addr)?,
-        len: number(len)?,
-        options: number(options)?,
-    })
+fn body_of(word: &str) -> Result<Body, Fault> {
+    if word == "-" {
+        return Ok(Body::Without);
+    }
+    Ok(Body::Number(number_in(word)?))
+}
+
+fn thing_of(body: Body, desc: &str) -> Result<Thing, Fault> {
+    let (addr, rest) = halves(desc, ":")?;
+    let (len, options) = halves(rest, ":")?;
+    let desc = XdpDesc {
+        addr: long_in(addr)?,
+        len: number_in(len)?,
+        options: number_in(options)?,
+    };
+    Ok(Thing { body, desc })
 }
