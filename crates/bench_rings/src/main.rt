@@ -4,9 +4,10 @@
 //! many one at a time, and tells for each thread how often it looked at the other side's count.
 #![tactic(auto)]
 
-ghost use Rattle.std.specs.Prelude.{◌≡◌, ◌≤◌};
+ghost use Rattle.std.specs.Prelude.{◌≡◌, ◌≤◌, IsTrue};
 ghost use Rattle.xsk_umem.specs.Limits.{most_items};
 ghost use Rattle.xsk_table.specs.Held.{new_pass};
+ghost use Rattle.xsk_table.specs.Opening.{new_passes};
 ghost use Rattle.xsk_rings.specs.Rounds.{Rests};
 ghost use Rattle.bench_rings.specs.Moving.{moving};
 
@@ -25,7 +26,7 @@ use std::thread::Threads;
 use std::{env, thread};
 use xsk_args::parse_number;
 use xsk_rings::CheckedPass;
-use xsk_table::{Pass, Shared};
+use xsk_table::{Pass, Passes, Shared};
 
 /// What is timed.
 #[derive(Clone, Copy)]
@@ -73,29 +74,43 @@ fn work_of(word: &str) -> Option<Work> {
 
 /// Whether the work was done so often.
 fn runs<R: Threads + Print + Sync>(rt: &R, alloc: Global, count: u32, work: Work) -> bool {
-    let Some((shared, mut held)) = opening::opened(alloc) else {
+    let Some((table, mut held)) = opening::opened(alloc) else {
         return false;
     };
-    let Some(driver) = held.take(0) else {
-        return false;
-    };
-    let Some(app) = held.take(2) else {
+    works(rt, alloc, &table, &mut held, count, work)
+}
+
+/// Whether the work was done so often over a new table.
+fn works<R: Threads + Print + Sync>(
+    rt: &R,
+    alloc: Global,
+    table: &Shared,
+    held: &mut Passes,
+    count: u32,
+    work: Work,
+) -> bool
+    requires config { table.now.setup.config ≡ moving }
+    requires new { held.old ≡ new_passes table.now }
+{
+    let Some((driver, app)) = opening::taken(table, held) else {
         return false;
     };
     match work {
-        Work::Moves(batch) => {
-            if batch == 0 || batch > 32 {
-                return false;
-            }
-            both_move(rt, &shared, driver, app, batch, count)
-        }
-        Work::Swaps => marking::swaps(&shared, driver, count),
-        Work::Looks => marking::looks(&shared, driver, count),
-        Work::Counts => both_count(rt, &shared, alloc, driver, app, count),
+        Work::Moves(batch) => both_move(rt, table, driver, app, batch, count),
+        Work::Swaps => marking::swaps(table, driver, count),
+        Work::Looks => marking::looks(table, driver, count),
+        Work::Counts => both_count(rt, table, alloc, driver, app, count),
     }
 }
 
-/// Has the driver and the application move so many descriptors, each on a thread of its own.
+/// Whether so many may move at once.
+fn is_batch(count: u32) -> bool
+    ensures { IsTrue result → (1 ≤ count) × (count ≤ most_items) }
+{
+    count >= 1 && count <= 32
+}
+
+/// Has the driver and the application move so many descriptors, each on a thread of its own, if so many may move at once.
 fn both_move<R: Threads + Sync>(
     rt: &R,
     table: &Shared,
@@ -107,8 +122,10 @@ fn both_move<R: Threads + Sync>(
     requires config { table.now.setup.config ≡ moving }
     requires driver { driver ≡ new_pass table.now 0 }
     requires app { app ≡ new_pass table.now 2 }
-    requires batch { (1 ≤ batch) × (batch ≤ most_items) }
 {
+    if !is_batch(batch) {
+        return false;
+    }
     let (there, back) = thread::join(
         rt,
         move || -> bool

@@ -1,12 +1,13 @@
 //! The table of the bench.
 ghost use Rattle.std.specs.Prelude.{◌≡◌, IfOk, IfSome, Some, None};
 ghost use Rattle.xsk_umem.specs.Registration.{fresh};
+ghost use Rattle.xsk_table.specs.Held.{new_pass};
 ghost use Rattle.xsk_table.specs.Opening.{new_passes};
 ghost use Rattle.bench_rings.specs.Moving.{moving, moving_on};
 
 use std::alloc::Global;
 use xsk_model::{Config, PairInfo, SocketInfo};
-use xsk_table::{Passes, Shared};
+use xsk_table::{Pass, Passes, Shared};
 use xsk_umem::{Geometry, OutOfMemory, Umem};
 
 fn config_on(alloc: Global, geometry: Geometry) -> Result<Config, OutOfMemory>
@@ -55,4 +56,16 @@ pub(crate) fn opened(alloc: Global) -> Option<(Shared, Passes)>
         return None;
     };
     Some(made)
+}
+
+/// The passes of driver 0 and of the application, if they are there.
+pub(crate) fn taken(table: &Shared, held: &mut Passes) -> Option<(Pass, Pass)>
+    requires config { table.now.setup.config ≡ moving }
+    requires new { held.old ≡ new_passes table.now }
+    ensures driver { IfSome result (λ passes. passes.0 ≡ new_pass table.now 0) }
+    ensures app { IfSome result (λ passes. passes.1 ≡ new_pass table.now 2) }
+{
+    let driver = held.take(0)?;
+    let app = held.take(2)?;
+    Some((driver, app))
 }

@@ -1,6 +1,8 @@
 //! xsk_bench: a forwarder of one's own beside the library's drivers. What port 0 receives goes out on port 1 where it is IPv4, and
 //! each frame comes home. The same is run with a mistake: it reserves no place on TX before it submits there.
-ghost use Rattle.std.specs.Prelude.{All, IfOk};
+ghost use Rattle.std.specs.Prelude.{◌≡◌, All, IfOk, length};
+ghost use Rattle.xsk_model.specs.Opening.{AreFrames};
+ghost use Rattle.xsk_prog.specs.Chain.{AllObey};
 ghost use Rattle.xsk_sim.specs.Shown.{HasShortPackets};
 
 use crate::layouts::opened;
@@ -10,8 +12,8 @@ use std::alloc::Global;
 use xsk_bench::{Amount, Bench, Traffic, Wire};
 use xsk_log::LineBuffer;
 use xsk_model::{Answer, Ask, Ring};
-use xsk_prog::{Chain, Rule, XdpProgram};
-use xsk_umem::{Batch, Item, PacketList};
+use xsk_prog::{Chain, Rule, Verdict, XdpProgram};
+use xsk_umem::{Batch, Frames, Item, PacketList};
 
 /// Room for what a driver sends.
 const ROOM: Amount = Amount {
@@ -20,25 +22,44 @@ const ROOM: Amount = Amount {
 };
 
 pub fn forward_by_hand<R: Print>(rt: &R, alloc: Global, reserves: bool) -> Result<()> {
-    let (config, frames) = opened(alloc, &LAYOUT)?;
-    let packets = received(alloc)?;
-    if packets.len() != config.ports() as usize {
-        bail!("there is a list for each port");
-    }
-    let traffic = Traffic::new(alloc, config, packets)?;
     let rule = Rule::Redirect { sockets: 1 };
     let program = XdpProgram::attach(rule, |bytes: &[u8], queue: u32| rule.verdict(bytes, queue));
     let mut chain = Chain::of(alloc, program)?;
-    let mut bench = Bench::open(alloc, &traffic, frames, &mut chain, Wire::Wait, ROOM)?;
-    if let Err(error) = forward(&mut bench, reserves) {
-        println!(rt; "told: {error}")?;
-    }
-    tell(rt, &bench)
+    let (traffic, frames) = prepared(alloc)?;
+    forward_under(rt, alloc, &traffic, frames, &mut chain, reserves)
+}
+
+/// The traffic of both ports, and the frames of the UMEM.
+fn prepared(alloc: Global) -> Result<(Traffic, Frames)>
+    ensures { IfOk result (λ made. AreFrames made.0.config.geometry made.1.items) }
+{
+    let packets = received(alloc)?;
+    let (config, frames) = opened(alloc, &LAYOUT)?;
+    let traffic = Traffic::new(alloc, config, packets)?;
+    Ok((traffic, frames))
+}
+
+/// The drivers and the forwarder under a chain of programs.
+fn forward_under<R: Print, F: Fn(&[u8], u32) -> Verdict>(
+    rt: &R,
+    alloc: Global,
+    traffic: &Traffic,
+    frames: Frames,
+    chain: &mut Chain<F>,
+    reserves: bool,
+) -> Result<()>
+    requires frames { AreFrames traffic.now.config.geometry frames.items }
+    requires obeys { AllObey F.Fn chain.old }
+{
+    let mut bench = Bench::open(alloc, traffic, frames, chain, Wire::Wait, ROOM)?;
+    let came = forward(&mut bench, reserves);
+    tell(rt, came, &bench)
 }
 
 /// An IPv4 packet and an ARP packet for port 0, and none for port 1.
 fn received(alloc: Global) -> Result<Vec<PacketList>>
-    ensures { IfOk result (λ lists. All HasShortPackets lists.items) }
+    ensures two { IfOk result (λ lists. length lists.items ≡ 2) }
+    ensures short { IfOk result (λ lists. All HasShortPackets lists.items) }
 {
     let mut first = PacketList::new(alloc);
     first.push(&[2, 0, 0, 0, 0, 1, 2, 0, 0, 0, 0, 2, 8, 0, 69, 0])?;
@@ -104,8 +125,19 @@ fn is_ipv4(item: &Item) -> bool {
     }
 }
 
-/// What the application did, and what was sent.
-fn tell<R: Print>(rt: &R, bench: &Bench<'_>) -> Result<()> {
+/// What was told the forwarder, what it did, and what was sent.
+fn tell<R: Print>(rt: &R, came: Result<()>, bench: &Bench<'_>) -> Result<()> {
+    if let Err(error) = came {
+        println!(rt; "told: {error}")?;
+    }
+    tell_calls(rt, bench)?;
+    let sent = bench.sent(1).context("there was room for all")?;
+    println!(rt; "port 1 sent {} packets", sent.len())?;
+    Ok(())
+}
+
+/// The calls of the application.
+fn tell_calls<R: Print>(rt: &R, bench: &Bench<'_>) -> Result<()> {
     let mut lines = bench.lines();
     let mut line = LineBuffer::new();
     for _ in 0..bench.log().len() {
@@ -113,7 +145,5 @@ fn tell<R: Print>(rt: &R, bench: &Bench<'_>) -> Result<()> {
             print!(rt; "{}", str::from_utf8(line.bytes())?)?;
         }
     }
-    let sent = bench.sent(1).context("there was room for all")?;
-    println!(rt; "port 1 sent {} packets", sent.len())?;
     Ok(())
 }

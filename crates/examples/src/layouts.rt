@@ -1,5 +1,5 @@
 //! xsk_socket: a layout is judged, and gives the regular configuration. `sockets.rt` sets up socket by socket.
-ghost use Rattle.std.specs.Prelude.{IfOk};
+ghost use Rattle.std.specs.Prelude.{◌≡◌, IfOk};
 ghost use Rattle.xsk_model.specs.Opening.{AreFrames};
 ghost use Rattle.xsk_turns.specs.Owned.{IsSteady};
 
@@ -46,6 +46,7 @@ pub fn configure<R: Print>(rt: &R, alloc: Global) -> Result<()> {
 /// The regular configuration of a layout, and the frames of its UMEM.
 pub fn opened(alloc: Global, layout: &Layout) -> Result<(Config, Frames)>
     ensures steady { IfOk result (λ made. IsSteady made.0) }
+    ensures ports { IfOk result (λ made. made.0.ports ≡ layout.now.ports) }
     ensures frames { IfOk result (λ made. AreFrames made.0.geometry made.1.items) }
 {
     if check_layout(layout).is_err() {

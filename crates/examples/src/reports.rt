@@ -16,8 +16,8 @@ pub fn report_a_run<R: Print>(rt: &R, alloc: Global) -> Result<()> {
 }
 
 fn text_of_a_run(alloc: Global) -> Result<Vec<u8>> {
-    let (config, frames) = opened(alloc, &LAYOUT)?;
-    let run = forwarded(alloc, config.copy(alloc)?, frames)?;
+    let run = forwarded(alloc)?;
+    let (config, _frames) = opened(alloc, &LAYOUT)?;
     reported(alloc, &config, run.figures())
 }
 

@@ -1,21 +1,19 @@
 //! xsk_sim: two drivers and an application forward a port's packets in rounds. What was sent has gaps for a capture's headers. The same
 //! where a program of one's own sends each third packet back by the port on which it came.
-ghost use Rattle.std.specs.Prelude.{All, IfOk, OnOk};
-ghost use Rattle.xsk_model.specs.Config.{IsRegular};
-ghost use Rattle.xsk_model.specs.Opening.{AreFrames};
+ghost use Rattle.std.specs.Prelude.{◌≡◌, All, IfOk, OnOk, length};
+ghost use Rattle.xsk_prog.specs.Chain.{AllObey};
 ghost use Rattle.xsk_prog.specs.Rules.{HasSockets};
 ghost use Rattle.xsk_sim.specs.Shown.{HasShortPackets};
 
 use crate::layouts::opened;
-use anyhow::{Result, bail};
+use anyhow::Result;
 use std::alloc::Global;
-use xsk_model::Config;
 use xsk_pcap::GAPS;
-use xsk_prog::{Chain, Rule, XdpProgram};
+use xsk_prog::{Chain, Rule, Verdict, XdpProgram};
 use xsk_sim::{Run, Wire, simulate};
 use xsk_socket::Layout;
 use xsk_turns::Manner;
-use xsk_umem::{Frames, PacketList};
+use xsk_umem::PacketList;
 
 /// Two ports with one queue each, and one socket on each queue.
 pub const LAYOUT: Layout = Layout {
@@ -39,61 +37,51 @@ pub const LAYOUT: Layout = Layout {
 };
 
 pub fn forward_a_packet<R: Print>(rt: &R, alloc: Global) -> Result<()> {
-    let (config, frames) = opened(alloc, &LAYOUT)?;
-    tell_run(rt, forwarded(alloc, config, frames)?)
+    tell_run(rt, forwarded(alloc)?)
 }
 
 pub fn bounce_every_third<R: Print>(rt: &R, alloc: Global) -> Result<()> {
-    let (config, frames) = opened(alloc, &LAYOUT)?;
     let lists = numbered(alloc)?;
     let rule = Rule::BounceType { kind: THIRD };
-    tell_run(rt, run_under(alloc, config, frames, lists, rule)?)
+    tell_run(rt, run_under(alloc, lists.as_slice(), rule)?)
 }
 
 /// The run in which port 0 of two receives one packet.
-pub fn forwarded(alloc: Global, config: Config, frames: Frames) -> Result<Run>
-    requires regular { IsRegular config }
-    requires frames { AreFrames config.geometry frames.items }
-{
+pub fn forwarded(alloc: Global) -> Result<Run> {
     let lists = received(alloc)?;
-    run_under(alloc, config, frames, lists, Rule::Redirect { sockets: 1 })
+    run_under(alloc, lists.as_slice(), Rule::Redirect { sockets: 1 })
 }
 
 /// A run under a program that keeps a rule.
-fn run_under(
-    alloc: Global,
-    config: Config,
-    frames: Frames,
-    lists: Vec<PacketList>,
-    rule: Rule,
-) -> Result<Run>
+fn run_under(alloc: Global, lists: &[PacketList], rule: Rule) -> Result<Run>
     requires sockets { HasSockets rule }
-    requires regular { IsRegular config }
-    requires frames { AreFrames config.geometry frames.items }
-    requires short { All HasShortPackets lists.items }
+    requires two { length lists.now ≡ 2 }
+    requires short { All HasShortPackets lists.now }
 {
-    if lists.len() != config.ports() as usize {
-        bail!("there is a list for each port");
-    }
     let program = XdpProgram::attach(rule, |bytes: &[u8], queue: u32| rule.verdict(bytes, queue));
     let mut chain = Chain::of(alloc, program)?;
-    let lists = lists.as_slice();
+    run_with(alloc, lists, &mut chain)
+}
+
+/// A run under a chain of programs.
+fn run_with<F: Fn(&[u8], u32) -> Verdict>(
+    alloc: Global,
+    lists: &[PacketList],
+    chain: &mut Chain<F>,
+) -> Result<Run>
+    requires two { length lists.now ≡ 2 }
+    requires short { All HasShortPackets lists.now }
+    requires obeys { AllObey F.Fn chain.old }
+{
     let manner = Manner::plain();
-    Ok(simulate(
-        alloc,
-        config,
-        frames,
-        lists,
-        &mut chain,
-        Wire::Wait,
-        0,
-        manner,
-    )?)
+    let (config, frames) = opened(alloc, &LAYOUT)?;
+    Ok(simulate(alloc, config, frames, lists, chain, Wire::Wait, 0, manner)?)
 }
 
 /// A list of one packet for port 0, and one of none for port 1.
 fn received(alloc: Global) -> Result<Vec<PacketList>>
-    ensures { IfOk result (λ lists. All HasShortPackets lists.items) }
+    ensures two { IfOk result (λ lists. length lists.items ≡ 2) }
+    ensures short { IfOk result (λ lists. All HasShortPackets lists.items) }
 {
     let mut first = PacketList::new(alloc);
     first.push(&[7; 60])?;
@@ -105,7 +93,8 @@ const THIRD: u16 = 0x88b5;
 
 /// A list of six packets for port 0, numbered from 1, and one of none for port 1.
 fn numbered(alloc: Global) -> Result<Vec<PacketList>>
-    ensures { IfOk result (λ lists. All HasShortPackets lists.items) }
+    ensures two { IfOk result (λ lists. length lists.items ≡ 2) }
+    ensures short { IfOk result (λ lists. All HasShortPackets lists.items) }
 {
     let mut first = PacketList::new(alloc);
     for number in 1..7 {
@@ -126,11 +115,12 @@ fn push_numbered(list: &mut PacketList, number: u8) -> Result<()>
 }
 
 fn tell_run<R: Print>(rt: &R, run: Run) -> Result<()> {
-    println!(rt; "a run of {} calls", run.log().len())?;
-    tell_all(rt, run.into_sent().into_lists())
+    let calls = run.log().len();
+    tell_all(rt, calls, run.into_sent().lists())
 }
 
-fn tell_all<R: Print>(rt: &R, sent: Vec<PacketList>) -> Result<()> {
+fn tell_all<R: Print>(rt: &R, calls: u32, sent: &[PacketList]) -> Result<()> {
+    println!(rt; "a run of {calls} calls")?;
     for list in sent {
         tell(rt, list)?;
     }
@@ -138,12 +128,12 @@ fn tell_all<R: Print>(rt: &R, sent: Vec<PacketList>) -> Result<()> {
 }
 
 /// What a driver sent.
-fn tell<R: Print>(rt: &R, list: PacketList) -> Result<()> {
+fn tell<R: Print>(rt: &R, list: &PacketList) -> Result<()> {
     println!(rt; "{} packets sent", list.len())?;
     for i in 0..list.len() {
         println!(rt; "{:?}", list.get(i))?;
     }
-    let has_gaps = list.into_parts().gaps == Some(GAPS);
+    let has_gaps = list.gaps() == Some(GAPS);
     println!(rt; "with gaps for headers: {has_gaps}")?;
     Ok(())
 }

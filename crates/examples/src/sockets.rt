@@ -11,7 +11,7 @@ use xsk_socket::{RingKind, Setup, XDP_COPY, XDP_SHARED_UMEM};
 use xsk_umem::{Frames, Geometry, MOST_ITEMS, Umem};
 
 pub fn from_socket_to_traffic<R: Print>(rt: &R, alloc: Global) -> Result<()> {
-    let (geometry, frames) = eight_frames(alloc)?;
+    let (geometry, frames) = registered(alloc, 16_384, 2048)?;
     let config = two_sockets(alloc, geometry)?;
     ensure!(config.lawful(), "the frames of each pair fit its FILL ring");
     let mut checked = Checked::open(alloc, config, frames)?;
@@ -20,11 +20,11 @@ pub fn from_socket_to_traffic<R: Print>(rt: &R, alloc: Global) -> Result<()> {
     peek(rt, &mut checked, 2, Ring::Rx(0))
 }
 
-/// A UMEM of eight frames of 2,048 bytes.
-fn eight_frames(alloc: Global) -> Result<(Geometry, Frames)>
+/// A UMEM of so many bytes, in chunks of so many.
+fn registered(alloc: Global, len: u64, chunk: u32) -> Result<(Geometry, Frames)>
     ensures { IfOk result (λ made. AreFrames made.0 made.1.items) }
 {
-    Ok(Umem::register(alloc, 16_384, 2048, 0)?)
+    Ok(Umem::register(alloc, len, chunk, 0)?)
 }
 
 /// The configuration of two sockets. Each is the first on its queue, so each brings FILL and COMPLETION.

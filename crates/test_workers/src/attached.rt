@@ -4,16 +4,18 @@
 //! `program redirect 1`. And what the wire does where a packet finds no frame or no room: by `wire drop` it drops it, and else
 //! it waits. By `mangle K` applications change items, and by `after N` they await N items on the RX ring of the socket that is to be
 //! closed before they close it.
-ghost use Rattle.std.specs.Prelude.{◌≡◌, ◌<◌, ◌≤◌, All, IfOk, length};
+ghost use Rattle.std.specs.Prelude.{◌≡◌, ◌<◌, ◌≤◌, All, IfOk, None, length};
 ghost use Rattle.xsk_model.specs.Config.{IsRegular};
 ghost use Rattle.xsk_model.specs.Expected.{nothing};
-ghost use Rattle.xsk_model.specs.Opening.{AreFrames};
+ghost use Rattle.xsk_prog.specs.Chain.{AllObey};
 ghost use Rattle.xsk_prog.specs.Rules.{HasSockets, IsBelow, IsRuled, Meets};
 ghost use Rattle.xsk_driver.specs.Sent.{IsShort};
 ghost use Rattle.xsk_sim.specs.Shown.{HasShortPackets};
+ghost use Rattle.xsk_socket.specs.Layout.{fault_of};
 
 use crate::trouble::Trouble;
 use crate::words::{Line, number, one_number, two_numbers};
+use fixtures::opened;
 use std::alloc::Global;
 use std::cell::Cell;
 use xsk_driver::{Driver, Wire};
@@ -21,8 +23,9 @@ use xsk_machine::Inputs;
 use xsk_model::Config;
 use xsk_prog::{Chain, Rule, Verdict, XdpProgram};
 use xsk_sim::{Run, simulate};
+use xsk_socket::Layout;
 use xsk_turns::Manner;
-use xsk_umem::{Frames, PacketList};
+use xsk_umem::PacketList;
 
 #[derive(Clone, Copy)]
 pub(crate) struct Program {
@@ -187,41 +190,65 @@ pub(crate) fn driver_of<'a>(
         decided(rule, even, packet, queue)
     });
     let mut chain = Chain::of(alloc, program)?;
-    let driver = Driver::new(
-        alloc,
-        config,
-        pair,
-        packets,
-        inputs.of_pair(pair),
-        &mut chain,
-        wire,
-        room.0,
-        room.1,
-    )?;
-    if chain
-        .programs()
-        .iter()
-        .any(|program| program.asked() != asked.get())
-    {
-        return Err(Trouble::Miscounted);
+    let numbers = inputs.of_pair(pair);
+    let driver = driver_under(
+        alloc, config, pair, packets, numbers, &mut chain, wire, room,
+    );
+    if are_asked(&chain, asked.get()) {
+        driver
+    } else {
+        Err(Trouble::Miscounted)
     }
-    Ok(driver)
 }
 
-/// A run of all workers in rounds.
+/// The driver of a pair under a chain of programs.
+fn driver_under<'a, F: Fn(&[u8], u32) -> Verdict>(
+    alloc: Global,
+    config: &'a Config,
+    pair: u32,
+    packets: &'a PacketList,
+    numbers: &'a [u32],
+    chain: &mut Chain<F>,
+    wire: Wire,
+    room: (u32, u32),
+) -> Result<Driver<'a>, Trouble>
+    requires regular { IsRegular config.now }
+    requires pair { pair < length config.now.pairs }
+    requires short { All IsShort packets.now.packets }
+    requires obeys { AllObey F.Fn chain.old }
+    ensures { IfOk result (λ d. d.expected ≡ nothing) }
+{
+    let (most, bytes) = room;
+    match Driver::new(
+        alloc, config, pair, packets, numbers, chain, wire, most, bytes,
+    ) {
+        Ok(driver) => Ok(driver),
+        Err(_) => Err(Trouble::NoMemory),
+    }
+}
+
+/// Whether each program of a chain was asked so often.
+fn are_asked<F: Fn(&[u8], u32) -> Verdict>(chain: &Chain<F>, count: u64) -> bool {
+    for program in chain.programs() {
+        if program.asked() != count {
+            return false;
+        }
+    }
+    true
+}
+
+/// A run of all workers in rounds, and the number of its pairs.
 pub(crate) fn run_of(
     alloc: Global,
-    config: Config,
-    frames: Frames,
+    layout: &Layout,
     packets: &[PacketList],
     program: Program,
     order: u32,
-) -> Result<Run, Trouble>
-    requires regular { IsRegular config }
-    requires frames { AreFrames config.geometry frames.items }
-    requires lists { length packets.now ≡ config.ports }
+) -> Result<(Run, u32), Trouble>
+    requires accepted { fault_of layout.now ≡ None }
+    requires lists { length packets.now ≡ layout.now.ports }
     requires short { All HasShortPackets packets.now }
-    ensures { IfOk result (λ run. run.pairs ≡ length config.pairs) }
+    ensures { IfOk result (λ made. made.1 ≡ made.0.pairs) }
 {
     let Program {
         rule,
@@ -235,7 +262,27 @@ pub(crate) fn run_of(
         |packet: &[u8], queue: u32| decided(rule, even, packet, queue),
     );
     let mut chain = Chain::of(alloc, program)?;
-    Ok(simulate(
-        alloc, config, frames, packets, &mut chain, wire, order, manner,
-    )?)
+    run_under(alloc, layout, packets, &mut chain, wire, order, manner)
+}
+
+/// A run under a chain of programs, and the number of its pairs.
+fn run_under<F: Fn(&[u8], u32) -> Verdict>(
+    alloc: Global,
+    layout: &Layout,
+    packets: &[PacketList],
+    chain: &mut Chain<F>,
+    wire: Wire,
+    order: u32,
+    manner: Manner,
+) -> Result<(Run, u32), Trouble>
+    requires accepted { fault_of layout.now ≡ None }
+    requires lists { length packets.now ≡ layout.now.ports }
+    requires short { All HasShortPackets packets.now }
+    requires obeys { AllObey F.Fn chain.old }
+    ensures { IfOk result (λ made. made.1 ≡ made.0.pairs) }
+{
+    let (config, frames) = opened(alloc, layout)?;
+    let pairs = config.pairs().len() as u32;
+    let run = simulate(alloc, config, frames, packets, chain, wire, order, manner)?;
+    Ok((run, pairs))
 }

@@ -19,8 +19,18 @@ pub(crate) fn tell_config(
     text: &mut String,
 ) -> Result<(), Trouble> {
     let (mut config, _frames) = set_up(alloc, lines)?;
+    tell_lines(alloc, &mut config, lines, rest, text)
+}
+
+fn tell_lines(
+    alloc: Global,
+    config: &mut Config,
+    lines: &[Line<'_>],
+    rest: &[Line<'_>],
+    text: &mut String,
+) -> Result<(), Trouble> {
     for line in rest {
-        tell_line(alloc, &mut config, lines, line, text)?;
+        tell_line(alloc, config, lines, line, text)?;
     }
     Ok(())
 }
@@ -46,10 +56,15 @@ fn tell_line(
 /// Opens the object over all frames, and tells how many come back.
 fn tell_opened(alloc: Global, lines: &[Line<'_>], text: &mut String) -> Result<(), Trouble> {
     let (config, frames) = set_up(alloc, lines)?;
-    let Ok(plain) = Plain::open(alloc, config, frames) else {
-        return Err(Trouble::NoMemory);
-    };
-    tell_number("", u64::from(plain.close().len()), text)?;
+    match Plain::open(alloc, config, frames) {
+        Ok(plain) => tell_closed(plain, text),
+        Err(_) => Err(Trouble::NoMemory),
+    }
+}
+
+fn tell_closed(plain: Plain, text: &mut String) -> Result<(), Trouble> {
+    let frames = plain.close().len();
+    tell_number("", u64::from(frames), text)?;
     text.push_str(" frames come back\n")?;
     Ok(())
 }
@@ -131,8 +146,13 @@ fn tell_cell(
     text: &mut String,
 ) -> Result<(), Trouble> {
     let (port, index) = two_numbers(words)?;
+    let value = cell_of_copy(alloc, config, port, index)?;
+    tell_last("", value, text)
+}
+
+fn cell_of_copy(alloc: Global, config: &Config, port: u32, index: u32) -> Result<u64, Trouble> {
     let copy = config.copy(alloc)?;
-    tell_last("", cell_of(&copy, port, index)?, text)
+    cell_of(&copy, port, index)
 }
 
 fn cell_of(config: &Config, port: u32, index: u32) -> Result<u64, Trouble> {

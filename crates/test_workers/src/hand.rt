@@ -34,13 +34,16 @@ impl Worker for Driver<'_> {
     }
 
     fn tell(&self, line: &str, text: &mut String) -> Result<bool, Trouble> {
-        match line {
-            "parked" => tell_parked(self.parked(), text)?,
-            "disposals" => tell_disposals(self.disposals(), text)?,
-            "sent" => tell_sent(self, text)?,
+        let told = match line {
+            "parked" => tell_parked(self.parked(), text),
+            "disposals" => tell_disposals(self.disposals(), text),
+            "sent" => tell_sent(self, text),
             _ => return Ok(false),
+        };
+        match told {
+            Ok(()) => Ok(true),
+            Err(trouble) => Err(trouble),
         }
-        Ok(true)
     }
 
     fn give_back(self, frames: &mut Frames) {

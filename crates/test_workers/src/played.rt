@@ -1,6 +1,7 @@
 //! Workers that are played by hand.
 ghost use Rattle.std.specs.Prelude.{◌≡◌, ◌<◌, All, length};
 ghost use Rattle.xsk_model.specs.Config.{IsRegular};
+ghost use Rattle.xsk_model.specs.Expected.{nothing};
 ghost use Rattle.xsk_driver.specs.Sent.{IsShort};
 ghost use Rattle.xsk_sim.specs.Shown.{HasShortPackets};
 
@@ -18,7 +19,6 @@ use std::cell::Cell;
 use xsk_app::App;
 use xsk_machine::Inputs;
 use xsk_model::Config;
-use xsk_turns::Manner;
 use xsk_umem::{Frames, PacketList};
 
 /// Plays a driver, by `driver PAIR PACKETS BYTES`, with room for so many packets and bytes that it sends, or an application,
@@ -32,18 +32,24 @@ pub(crate) fn play_hand(
     text: &mut String,
 ) -> Result<(), Trouble> {
     let (config, frames) = set_up(alloc, lines)?;
-    let mut shelf = shelf_of(alloc, &config, frames)?;
-    shelf.write_all(alloc, lines)?;
+    let mut shelf = shelf_of(alloc, &config, frames, lines)?;
     if driver {
         drive(alloc, &config, lines, words, rest, &mut shelf, text)
     } else {
-        let manner = manner_of(lines)?;
-        pass_on(alloc, &config, manner, words, rest, &mut shelf, text)
+        pass_on(alloc, &config, lines, words, rest, &mut shelf, text)
     }
 }
 
-fn shelf_of(alloc: Global, config: &Config, frames: Frames) -> Result<Shelf, Trouble> {
-    Shelf::new(alloc, frames, config.geometry().chunk())
+/// All frames, with the bytes that the script gives them.
+fn shelf_of(
+    alloc: Global,
+    config: &Config,
+    frames: Frames,
+    lines: &[Line<'_>],
+) -> Result<Shelf, Trouble> {
+    let mut shelf = Shelf::new(alloc, frames, config.geometry().chunk())?;
+    shelf.write_all(alloc, lines)?;
+    Ok(shelf)
 }
 
 /// Plays a driver of a configuration.
@@ -99,18 +105,25 @@ fn drive_on(
     let asked = Cell::new(0);
     let room = (packets, bytes);
     let driver = driver_of(alloc, config, pair, list, inputs, program, &asked, room)?;
-    if lines.iter().any(|line| line.text == "asked") {
-        tell_last("asked: ", asked.get(), text)?;
+    let count = if asks(lines) { Some(asked.get()) } else { None };
+    play_new("d", pair, driver, count, rest, shelf, text)
+}
+
+/// Whether a script wants to know how often the driver's program was asked.
+fn asks(lines: &[Line<'_>]) -> bool {
+    for line in lines {
+        if line.text == "asked" {
+            return true;
+        }
     }
-    let hand = Hand::new("d", pair, driver);
-    play(alloc, hand, rest, shelf, text)
+    false
 }
 
 /// Plays an application of a configuration.
 fn pass_on(
     alloc: Global,
     config: &Config,
-    manner: Manner,
+    lines: &[Line<'_>],
     words: &[&str],
     rest: &[Line<'_>],
     shelf: &mut Shelf,
@@ -118,46 +131,68 @@ fn pass_on(
 ) -> Result<(), Trouble>
     requires { IsRegular config.now }
 {
+    let manner = manner_of(lines)?;
     let app = one_number(words)?;
     if app >= (config.ports() / 2) * config.queues() {
         return Err(Trouble::NoWorker);
     }
-    let hand = Hand::new("a", app, App::new(alloc, config, app, manner)?);
-    play(alloc, hand, rest, shelf, text)
+    let worker = App::new(alloc, config, app, manner)?;
+    play_new("a", app, worker, None, rest, shelf, text)
 }
 
-/// Goes over replies and questions, and then tells what the worker's last call was, and behind a last line `frames` which frames
-/// it has.
-fn play<M: Worker>(
-    alloc: Global,
-    hand: Hand<M>,
+/// Plays a worker that has made no call yet, behind the number of times that its program was asked, if that is to be told. Then it
+/// tells what the worker's last call was, and behind a last line `frames` which frames it has.
+fn play_new<M: Worker>(
+    letter: &'static str,
+    number: u32,
+    worker: M,
+    asked: Option<u64>,
     lines: &[Line<'_>],
     shelf: &mut Shelf,
     text: &mut String,
-) -> Result<(), Trouble> {
-    let mut hand = hand;
+) -> Result<(), Trouble>
+    requires { M.expected worker ≡ nothing }
+{
+    if let Some(count) = asked {
+        tell_last("asked: ", count, text)?;
+    }
+    let mut hand = Hand::new(letter, number, worker);
+    let wants_frames = play(&mut hand, lines, shelf, text)?;
+    hand.tell_call("?", text)?;
+    if wants_frames {
+        shelf.tell_back(hand, text)
+    } else {
+        Ok(())
+    }
+}
+
+/// Goes over replies and questions, up to a line `frames`, and tells whether there is one.
+fn play<M: Worker>(
+    hand: &mut Hand<M>,
+    lines: &[Line<'_>],
+    shelf: &mut Shelf,
+    text: &mut String,
+) -> Result<bool, Trouble> {
     for line in lines {
         if line.text == "frames" {
-            hand.tell_call("?", text)?;
-            return shelf.tell_back(hand, text);
+            return Ok(true);
         }
         if !hand.tell(line.text, text)? {
-            step(alloc, &mut hand, line.text, shelf, text)?;
+            step(hand, line.text, shelf, text)?;
         }
     }
-    hand.tell_call("?", text)
+    Ok(false)
 }
 
 /// Goes on with a reply, and tells the call with it.
 fn step<M: Worker>(
-    alloc: Global,
     hand: &mut Hand<M>,
     line: &str,
     shelf: &mut Shelf,
     text: &mut String,
 ) -> Result<(), Trouble> {
     hand.tell_call(line, text)?;
-    let reply = reply_of(alloc, line, shelf)?;
+    let reply = reply_of(line, shelf)?;
     let Some(act) = hand.goes(reply) else {
         return Err(Trouble::BadReply);
     };

@@ -5,7 +5,6 @@ ghost use Rattle.std.specs.Prelude.{◌<◌, length};
 use crate::shelf::Shelf;
 use crate::trouble::Trouble;
 use crate::words::{halves, long_number, number};
-use std::alloc::Global;
 use xsk_model::Reply;
 use xsk_umem::{Batch, Frame, Item, XdpDesc};
 
@@ -13,38 +12,55 @@ use xsk_umem::{Batch, Frame, Item, XdpDesc};
 const MOST_ITEMS: u32 = 32;
 
 /// The reply of a line. The frames of its items are taken from the shelf.
-pub(crate) fn reply_of(alloc: Global, line: &str, shelf: &mut Shelf) -> Result<Reply, Trouble> {
+pub(crate) fn reply_of(line: &str, shelf: &mut Shelf) -> Result<Reply, Trouble> {
     match line {
         "granted" => Ok(Reply::Granted),
         "submitted" => Ok(Reply::Submitted),
         "empty" => Ok(Reply::Empty),
         "released" => Ok(Reply::Released),
-        _ => long_reply(alloc, line, shelf),
+        _ => long_reply(line, shelf),
     }
 }
 
-fn long_reply(alloc: Global, line: &str, shelf: &mut Shelf) -> Result<Reply, Trouble> {
+fn long_reply(line: &str, shelf: &mut Shelf) -> Result<Reply, Trouble> {
     let Some((word, rest)) = line.split_once(' ') else {
-        return Ok(Reply::Old(long_number(line)?));
+        return old(line);
     };
     match word {
-        "full" => Ok(Reply::Full(number(rest)?)),
-        "items" => Ok(Reply::Items(items_of(alloc, rest, shelf)?)),
+        "full" => full(rest),
+        "items" => items(rest, shelf),
         _ => Err(Trouble::BadLine),
     }
 }
 
-fn items_of(alloc: Global, text: &str, shelf: &mut Shelf) -> Result<Batch, Trouble> {
+fn old(word: &str) -> Result<Reply, Trouble> {
+    Ok(Reply::Old(long_number(word)?))
+}
+
+fn full(word: &str) -> Result<Reply, Trouble> {
+    Ok(Reply::Full(number(word)?))
+}
+
+fn items(text: &str, shelf: &mut Shelf) -> Result<Reply, Trouble> {
     let mut items = Batch::new();
+    push_all(&mut items, text, shelf)?;
+    Ok(Reply::Items(items))
+}
+
+fn push_all(items: &mut Batch, text: &str, shelf: &mut Shelf) -> Result<(), Trouble> {
     for word in text.split_whitespace() {
-        let desc = desc_of(word)?;
-        let frame = frame_at(desc.addr, shelf)?;
         if items.len() == MOST_ITEMS {
             return Err(Trouble::BadLine);
         }
-        items.push(Item { frame, desc });
+        items.push(item_of(word, shelf)?);
     }
-    Ok(items)
+    Ok(())
+}
+
+fn item_of(word: &str, shelf: &mut Shelf) -> Result<Item, Trouble> {
+    let desc = desc_of(word)?;
+    let frame = frame_at(desc.addr, shelf)?;
+    Ok(Item { frame, desc })
 }
 
 fn desc_of(word: &str) -> Result<XdpDesc, Trouble> {

@@ -2,7 +2,7 @@
 ghost use Rattle.std.specs.Prelude.{◌≡◌, ◌<◌, IfOk, length};
 
 use crate::attached::{program_of, run_of};
-use crate::made::set_up;
+use crate::layout::layout_of;
 use crate::packets::lists_of;
 use crate::texts::{tell_last, tell_number, tell_packets};
 use crate::trouble::Trouble;
@@ -42,11 +42,9 @@ fn run_by(alloc: Global, lines: &[Line<'_>], order: u32) -> Result<(Run, u32), T
     ensures { IfOk result (λ made. made.1 ≡ made.0.pairs) }
 {
     let program = program_of(lines)?;
-    let (config, frames) = set_up(alloc, lines)?;
-    let pairs = config.pairs().len() as u32;
-    let lists = lists_of(alloc, lines, config.ports())?;
-    let run = run_of(alloc, config, frames, lists.as_slice(), program, order)?;
-    Ok((run, pairs))
+    let layout = layout_of(lines)?;
+    let lists = lists_of(alloc, lines, layout.ports)?;
+    run_of(alloc, &layout, lists.as_slice(), program, order)
 }
 
 fn tell_run(

@@ -50,14 +50,17 @@ fn play_work(
     rest: &[Line<'_>],
     text: &mut String,
 ) -> Result<bool, Trouble> {
-    match work {
-        "driver" => play_hand(alloc, true, lines, words, rest, text)?,
-        "app" => play_hand(alloc, false, lines, words, rest, text)?,
-        "run" => play_run(alloc, lines, words, rest, text)?,
-        "config" => tell_config(alloc, lines, rest, text)?,
-        "traffic" => play_traffic(alloc, words, rest, text)?,
-        "ends" => play_ends(alloc, words, rest, text)?,
+    let played = match work {
+        "driver" => play_hand(alloc, true, lines, words, rest, text),
+        "app" => play_hand(alloc, false, lines, words, rest, text),
+        "run" => play_run(alloc, lines, words, rest, text),
+        "config" => tell_config(alloc, lines, rest, text),
+        "traffic" => play_traffic(alloc, words, rest, text),
+        "ends" => play_ends(alloc, words, rest, text),
         _ => return Ok(false),
+    };
+    match played {
+        Ok(()) => Ok(true),
+        Err(trouble) => Err(trouble),
     }
-    Ok(true)
 }

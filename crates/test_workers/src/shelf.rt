@@ -6,7 +6,7 @@ use crate::trouble::Trouble;
 use crate::words::{Line, three_numbers};
 use std::alloc::Global;
 use xsk_model::{Act, Call};
-use xsk_umem::{Batch, Frame, Frames};
+use xsk_umem::{Batch, Frame, Frames, Item};
 
 #[derive(Drop)]
 pub(crate) struct Shelf {
@@ -21,10 +21,7 @@ impl Shelf {
     /// All frames of a UMEM.
     pub(crate) fn new(alloc: Global, frames: Frames, chunk: u32) -> Result<Shelf, Trouble> {
         let mut queue = frames;
-        let mut frames = Vec::new(alloc);
-        for _ in 0..queue.len() {
-            frames.push(queue.pop_front())?;
-        }
+        let frames = taken_from(alloc, &mut queue)?;
         Ok(Shelf {
             frames,
             queue,
@@ -56,11 +53,13 @@ impl Shelf {
         let Ok(value) = u8::try_from(value) else {
             return Err(Trouble::BadLine);
         };
-        let piece = vec![in alloc; value; len as usize]?;
-        let (number, offset) = self.place(u64::from(addr)).ok_or(Trouble::NoFrame)?;
+        let Some((number, offset)) = self.place(u64::from(addr)) else {
+            return Err(Trouble::NoFrame);
+        };
         let Some(place) = self.frames.get_mut(number) else {
             return Err(Trouble::NoFrame);
         };
+        let piece = vec![in alloc; value; len as usize]?;
         fill(place, offset, piece.as_slice())
     }
 
@@ -103,16 +102,34 @@ impl Shelf {
         }
     }
 
+    fn put_item(&mut self, item: Option<Item>) {
+        let Some(
+            Item {
+                frame: Some(frame),
+                ..
+            },
+        ) = item
+        else {
+            return;
+        };
+        self.put(frame);
+    }
+
     fn put_all(&mut self, items: Batch) {
         let mut items = items;
         for _ in 0..items.len() {
-            if let Some(item) = items.pop_front() {
-                if let Some(frame) = item.frame {
-                    self.put(frame);
-                }
-            }
+            self.put_item(items.pop_front());
         }
     }
+}
+
+/// All frames of a queue, which is empty then.
+fn taken_from(alloc: Global, queue: &mut Frames) -> Result<Vec<Option<Frame>>, Trouble> {
+    let mut frames = Vec::new(alloc);
+    for _ in 0..queue.len() {
+        frames.push(queue.pop_front())?;
+    }
+    Ok(frames)
 }
 
 /// Writes bytes into a frame, which must be there.

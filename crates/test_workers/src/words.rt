@@ -65,10 +65,12 @@ pub(crate) fn two_numbers(words: &[&str]) -> Result<(u32, u32), Trouble> {
 }
 
 pub(crate) fn three_numbers(words: &[&str]) -> Result<(u32, u32, u32), Trouble> {
-    match words {
-        [one, two, three] => Ok((number(one)?, number(two)?, number(three)?)),
-        _ => Err(Trouble::BadLine),
-    }
+    let [one, rest @ ..] = words else {
+        return Err(Trouble::BadLine);
+    };
+    let one = number(one)?;
+    let (two, three) = two_numbers(rest)?;
+    Ok((one, two, three))
 }
 
 /// The two halves of a word around a mark.
