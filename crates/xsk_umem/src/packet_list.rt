@@ -1,5 +1,5 @@
 //! Lists of packets, as spans of one text.
-ghost use Rattle.std.specs.Prelude.{ℕ, ◌≡◌, ◌+◌, ◌<◌, ◌≤◌, ◌^◌, All, List, [], ◌∷◌, ◌++◌, length, map, replicate, sum_by, None, Some, false, slice_get, ◌↔◌, IsTrue, IfOk, IfSome, IsSome, OnOk, OnErr, vec_len, vec_capacity};
+ghost use Rattle.std.specs.Prelude.{ℕ, ◌≡◌, ◌+◌, ◌*◌, ◌<◌, ◌≤◌, ◌^◌, All, List, [], ◌∷◌, ◌++◌, length, map, replicate, sum_by, None, Some, false, slice_get, ◌↔◌, IsTrue, IfOk, IfSome, IsSome, OnOk, OnErr, vec_len, vec_capacity};
 ghost use Rattle.std.specs.Borrow.{sem};
 ghost use Rattle.std.specs.Io.BufRead.{Rests};
 ghost use Rattle.std.specs.List.{concat};
@@ -212,11 +212,8 @@ impl PacketList {
     {
         let packets = packets.max(self.spare_packets);
         let bytes = u64::from(bytes).max(self.spare_bytes);
-        if u64::from(packets) + self.spans.len() as u64 > u64::from(u32::MAX) {
-            return Err(OutOfMemory);
-        }
-        let gaps = u64::from(packets) * u64::from(before_each(self.gaps));
-        let Some(room) = gaps.checked_add(bytes) else {
+        let gap = before_each(self.gaps);
+        let Some(room) = room_of(self.spans.len(), packets, gap, bytes) else {
             return Err(OutOfMemory);
         };
         self.spans.reserve(packets as usize)?;
@@ -328,6 +325,18 @@ fn own_text(text: Vec<u8>, front: Option<Front>) -> Vec<u8>
         Some(front) => front.into_text(),
         None => text,
     }
+}
+
+/// The bytes of so many packets' gaps and so many more, where 64 bits count them, and 32 bits the packets behind so many.
+fn room_of(before: usize, packets: u32, gap: u32, bytes: u64) -> Option<u64>
+    requires { before < 2 ^ 32 }
+    ensures { IfSome result (λ room. (before + packets < 2 ^ 32) × (room ≡ packets * gap + bytes)) }
+{
+    if before as u64 + u64::from(packets) > u64::from(u32::MAX) {
+        return None;
+    }
+    let gaps = u64::from(packets) * u64::from(gap);
+    gaps.checked_add(bytes)
 }
 
 /// Makes room for so many further bytes in a list's own text, which takes the place of what is shared.
