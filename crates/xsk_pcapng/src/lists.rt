@@ -14,7 +14,7 @@ use std::sync::Arc;
 use xsk_umem::{OutOfMemory, PacketList, Span};
 
 /// How much the packets of one interface take.
-#[derive(Clone, Copy, Debug)]
+#[derive(Clone, Copy)]
 struct Room {
     packets: u32,
     bytes: u32,

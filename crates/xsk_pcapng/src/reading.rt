@@ -92,7 +92,7 @@ pub struct TakeRefused {
 }
 
 /// What a block holds for a reader.
-#[derive(Clone, Copy, Debug)]
+#[derive(Clone, Copy)]
 pub enum Content {
     /// Nothing.
     Other,
@@ -103,7 +103,7 @@ pub enum Content {
 }
 
 /// A packet that was found: its interface, and where it stands in the file.
-#[derive(Clone, Copy, Debug)]
+#[derive(Clone, Copy)]
 pub struct Found {
     pub interface: u32,
     pub span: Span,
