@@ -1,7 +1,7 @@
 -- The sizes of rings: as a test, and that they are few.
 use Rattle.std.proofs.Common.{◌≡◌, ℕ, zero, suc, ◌+◌, ◌^◌, ◌<◌, ◌≤◌, true, eqb, leb, Option, None, Some, refl, arith, inl, inr}
 use Rattle.std.specs.List.{list_any, range_with_len}
-use Rattle.std.specs.Prelude.{IfSome, unwrap_or}
+use Rattle.std.specs.Prelude.{IfSome, IsSome, unwrap_or}
 use Rattle.std.proofs.lemmas.Bool.{cases_Bool, eqb-true}
 use Rattle.std.proofs.lemmas.Bool.Decides.{nat_tests}
 use Rattle.std.proofs.Math.Nat.{pow-le-pow_right}
@@ -64,6 +64,11 @@ size_of_power size is =
     }
 
 -- ---- the rings of a configuration
+
+-- a size that is there is one of a ring's
+pub some_size : (size : Option ℕ) → IsSome size → IfSome size IsRingSize → IsRingSize (unwrap_or size 0)
+some_size None some is = absurd (cc)
+some_size (Some size) some is = is
 
 most_of : (size : Option ℕ) → IfSome size IsRingSize → unwrap_or size 0 ≤ 2048
 most_of None h = omega arith

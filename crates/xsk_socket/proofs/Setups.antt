@@ -11,6 +11,7 @@ use Rattle.std.proofs.lemmas.List.Quantifiers.{any-set}
 use Rattle.std.proofs.lemmas.List.Sums.{sum_by-cons, sum_by-set, sum_by_push}
 use Rattle.xsk_model.specs.Config.{IsRingSize, pairs_at}
 use Rattle.xsk_model.specs.declared.config.PairInfo.{PairInfo}
+use Rattle.xsk_model.proofs.RingSizes.{some_size}
 use Rattle.xsk_socket.specs.declared.socket.Place.{Place}
 use Rattle.xsk_socket.specs.declared.socket.RingKind.{RingKind}
 use Rattle.xsk_socket.specs.declared.socket.RingKind.TheVariants.{Rx, Tx, Fill, Comp}
@@ -188,10 +189,6 @@ wider ports queues port queue pairs own x (Some place) is = record {
   pair = grown pairs own port queue place.port place.queue is.pair;
   ring = is.ring;
 }
-
-some_size : (size : Option ℕ) → IsSome size → IfSome size IsRingSize → IsRingSize (unwrap_or size 0)
-some_size None some is = absurd (cc)
-some_size (Some size) some is = is
 
 pub record MayBind (s : State) (own : Socket) (p q : ℕ) : Type 0 where
   pub port : p < s.ports

@@ -1,6 +1,5 @@
 -- Writes of words, and the sizes of rings.
 use Rattle.std.proofs.Common.{◌≡◌, ℕ, ◌+◌, ◌-◌, ◌*◌, ◌/◌, ◌%◌, ◌^◌, ◌<◌, ◌≤◌, true, false, List, length, set, refl, sym, ap, ◌∙◌, arith, subst, ⊎_elim, Option, Some, None}
-use Rattle.std.specs.Prelude.{IsSome, IfSome, unwrap_or}
 use Rattle.std.proofs.lemmas.Bool.{cases_lt}
 use Rattle.std.proofs.lemmas.Nat.{pow-add}
 use Rattle.std.proofs.Math.Pow.{pow_mono}
@@ -13,15 +12,12 @@ use Rattle.xsk_model.specs.declared.call.Ring.{Ring}
 use Rattle.xsk_model.specs.declared.call.Ring.TheVariants.{Fill, Comp, Rx, Tx}
 use Rattle.xsk_model.specs.declared.call.Mark.{Mark}
 use Rattle.xsk_model.proofs.Places.{is_ring-self}
+use Rattle.xsk_model.proofs.RingSizes.{some_size}
 use Rattle.xsk_words.specs.Layout.{entry_words, words_of, Word, producer, consumer, entry, second, mark, HasWord, word_at}
 use Rattle.xsk_words.proofs.Rows.{own_words}
 use Rattle.xsk_table.specs.Rule.{at}
 
 -- ---- sizes
-
-size_some : (size : Option ℕ) → IsSome size → IfSome size IsRingSize → IsRingSize (unwrap_or size 0)
-size_some None some h = absurd (cc)
-size_some (Some size) some h = h
 
 pub ring_size : (c : Config) (r : Ring) → IsConfig c → HasRing c r → IsRingSize (size_of c r)
 ring_size c (Fill d) config h =
@@ -30,10 +26,10 @@ ring_size c (Comp d) config h =
     let served : IsServed c.sockets (pair_at c.pairs d) = config.served d (record { port = 0; queue = 0; fill = 0; comp = 0 }) h in served.comp
 ring_size c (Rx s) config h =
     let bound : IsBound c.ports c.queues c.pairs (socket_at c.sockets s) = config.bound s (record { port = 0; queue = 0; rx = None; tx = None }) h.0 in
-    size_some (socket_at c.sockets s).rx h.1 bound.rx
+    some_size (socket_at c.sockets s).rx h.1 bound.rx
 ring_size c (Tx s) config h =
     let bound : IsBound c.ports c.queues c.pairs (socket_at c.sockets s) = config.bound s (record { port = 0; queue = 0; rx = None; tx = None }) h.0 in
-    size_some (socket_at c.sockets s).tx h.1 bound.tx
+    some_size (socket_at c.sockets s).tx h.1 bound.tx
 
 -- a ring's size divides 2 ^ 32
 divides_by : (size part n : ℕ) → part * size ≡ 2 ^ 32 → (n % 2 ^ 32) % size ≡ n % size
