@@ -1,12 +1,10 @@
 //! The application, as other crates use it.
-ghost use Rattle.std.specs.Prelude.{◌≡◌, None, Some, List, ℕ, ◌+◌, ◌++◌, ◌-◌, ◌*◌, ◌/◌, ◌%◌, ◌<◌, ◌≤◌, IfOk, [], ◌∷◌, length, replicate, flat_map, vec_len, slice_index};
-ghost use Rattle.std.specs.List.{slice_index_or};
+ghost use Rattle.std.specs.Prelude.{◌≡◌, None, Some, List, ℕ, ◌+◌, ◌++◌, ◌-◌, ◌*◌, ◌/◌, ◌%◌, ◌<◌, ◌≤◌, IfOk, [], ◌∷◌, replicate, flat_map, slice_index};
 ghost use Rattle.xsk_umem.specs.Frame.{Frame as AFrame};
 ghost use Rattle.xsk_turns.specs.AppTurns.{AppKept};
 ghost use Rattle.xsk_turns.specs.Giving.{with_frames};
 ghost use Rattle.xsk_turns.specs.Owned.{Suits};
 ghost use Rattle.xsk_model.specs.Marks.{apps_of};
-ghost use Rattle.xsk_app.specs.declared.machine.Way.{Way};
 ghost use Rattle.xsk_app.specs.Ways.{IsWay};
 ghost use Rattle.xsk_model.specs.Config.{Config as AConfig, IsRegular};
 ghost use Rattle.xsk_model.specs.Entry.{Told, with_told};
@@ -19,11 +17,10 @@ ghost use Rattle.xsk_turns.specs.Stepping.{joined_ask, joined_answer, IsGivenBac
 
 use crate::back::Back;
 use crate::closing::shut_on;
-use crate::kept::fill_ways;
-use crate::machine::{Machine, Turn, Wait, Way};
+use crate::machine::{Machine, Way};
+use crate::start::start;
 use std::alloc::Global;
 use std::marker::Model;
-use xsk_model::steering::{driver_on, port_on, queue_on};
 use xsk_model::{Act, Answer, Ask, Config, Reply};
 use xsk_turns::Manner;
 use xsk_turns::giving::give_batches;
@@ -68,43 +65,13 @@ impl<'a> App<'a> {
         ensures expected { IfOk result (λ a. a.expected ≡ nothing) }
         ensures new { IfOk result (λ a. IsNew manner config.now app a) }
     {
-        // The geometry is lawful, and so is the configuration.
-        let _geometry = config.geometry();
-        let _queues = config.queues();
-        let queue = queue_on(config, app);
-        let first = driver_on(config, port_on(config, app, 0), queue);
-        let second = driver_on(config, port_on(config, app, 1), queue);
-        let pairs = [first, second];
-        let classes = config.classes();
-        let machine = Machine {
-            config,
-            app,
-            batch: config.batch(),
-            ways: new_ways(alloc, pairs, classes)?,
-            pairs,
-            pending: new_pending(alloc, 2 * classes as usize)?,
-            backs: new_backs(alloc)?,
-            seen: [false; 2],
-            gone: [false; 2],
-            tx_done: false,
-            manner,
-            number: 0,
-            classes,
-            shut: shut_on(config, app),
-            awaited: manner.after,
-            cut: [false; 2],
-            begun: false,
-            acked: false,
-            turn: Turn {
-                seen: false,
-                gone: false,
-                lanes_empty: true,
-                sides_empty: true,
-                acked: false,
-            },
-            wait: Wait::Start,
-        };
-        Ok(App { machine })
+        let lanes = 2 * config.classes() as usize;
+        let ways = Vec::with_capacity(alloc, lanes)?;
+        let pending = new_pending(alloc, lanes)?;
+        let backs = new_backs(alloc)?;
+        let shut = shut_on(config, app);
+        let seen = [false; 2];
+        Ok(start(config, app, ways, pending, backs, seen, manner, shut))
     }
 
     /// Goes on with the reply to the last call (none at first), and gives the next call, or tells that it has ended.
@@ -177,19 +144,7 @@ impl<'a> App<'a> {
     }
 }
 
-/// The lanes, by side and class: from each class of each side's pair to the same class of the other side's.
-fn new_ways(alloc: Global, pairs: [u32; 2], classes: u32) -> Result<Vec<Way>, OutOfMemory>
-    requires some { 1 ≤ classes }
-    requires few { classes ≤ 4 }
-    requires first { slice_index pairs 0 < 64 }
-    requires second { slice_index pairs 1 < 64 }
-    ensures count { IfOk result (λ ways. vec_len ways ≡ 2 * classes) }
-    ensures ways { IfOk result (λ ways. (lane : ℕ) (d : Way) → lane < vec_len ways → IsWay pairs classes lane (slice_index_or ways.items lane d)) }
-{
-    let ways = Vec::with_capacity(alloc, 2 * classes as usize)?;
-    Ok(fill_ways(ways, pairs, classes))
-}
-
+/// A lane, by side and class: from each class of each side's pair to the same class of the other side's.
 pub(crate) fn way_of(pairs: [u32; 2], classes: u32, lane: u32) -> Way
     requires some { 1 ≤ classes }
     requires few { classes ≤ 4 }

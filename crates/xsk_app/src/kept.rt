@@ -12,8 +12,9 @@ ghost use Rattle.xsk_app.specs.Ways.{IsWay};
 
 use crate::app::{App, new_pending, way_of};
 use crate::back::Back;
-use crate::machine::{Machine, Turn, Wait, Way};
+use crate::machine::Way;
 use crate::room::Room;
+use crate::start::start;
 use std::alloc::Global;
 use xsk_model::Config;
 use xsk_model::steering::{driver_on, port_on, queue_on};
@@ -62,10 +63,6 @@ impl<'a> App<'a> {
         ensures kept { result.kept ≡ kept_in kept }
         ensures resumed { (past : List Told) → HasLeft config.now (kept_in kept) past → IsResumed config.now app (kept_in kept) past result }
     {
-        // The geometry is lawful, and so is the configuration.
-        let _geometry = config.geometry();
-        let _queues = config.queues();
-        let pairs = [side_pair(config, app, 0), side_pair(config, app, 1)];
         let Carried {
             pending,
             back0,
@@ -77,35 +74,9 @@ impl<'a> App<'a> {
         let Room { ways, mut backs } = room;
         backs.push_reserved(back0);
         backs.push_reserved(back1);
-        let machine = Machine {
-            config,
-            app,
-            batch: config.batch(),
-            ways: fill_ways(ways, pairs, config.classes()),
-            pairs,
-            pending,
-            backs,
-            seen: [seen0, seen1],
-            gone: [false; 2],
-            tx_done: false,
-            manner: Manner::plain(),
-            number: 0,
-            classes: config.classes(),
-            shut: None,
-            awaited: 0,
-            cut: [false; 2],
-            begun: false,
-            acked: false,
-            turn: Turn {
-                seen: false,
-                gone: false,
-                lanes_empty: true,
-                sides_empty: true,
-                acked: false,
-            },
-            wait: Wait::Start,
-        };
-        App { machine }
+        let seen = [seen0, seen1];
+        let manner = Manner::plain();
+        start(config, app, ways, pending, backs, seen, manner, None)
     }
 }
 

@@ -10,6 +10,7 @@ mod kept;
 mod machine;
 mod mangling;
 mod room;
+mod start;
 
 pub use app::App;
 pub use back::Back;
