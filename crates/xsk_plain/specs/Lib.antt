@@ -1,3 +1,4 @@
+pub mod Bases
 pub mod Checked
 pub mod Engine
 pub mod Histories

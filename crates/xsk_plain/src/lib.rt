@@ -1,6 +1,7 @@
 //! The AF_XDP object on one thread, with the log of all calls on it.
 #![tactic(auto)]
 
+mod bases;
 mod checked;
 pub mod laws;
 mod moving;

@@ -2,15 +2,17 @@
 ghost use Rattle.std.specs.Prelude.{◌≡◌, vec_len};
 ghost use Rattle.xsk_model.specs.Marks.{mark_places_of};
 ghost use Rattle.xsk_model.specs.Sizes.{sizes_of};
+ghost use Rattle.xsk_plain.specs.Bases.{ring_bases, mark_bases};
 ghost use Rattle.xsk_plain.specs.Stores.{sizes_in};
 
+use crate::bases::{first_marks, first_rings, mark_number, ring_number};
 use crate::moving::{give_back, put_items, take_items};
 use crate::opening::{fill_pools, open_marks, open_rings};
 use crate::ring_store::RingStore;
 use std::alloc::Global;
 use std::mem;
 use xsk_log::Log;
-use xsk_model::placement::{has_mark, has_ring, mark_place, ring_place};
+use xsk_model::placement::{has_mark, has_ring};
 use xsk_model::{Call, Config, Mark, Ring};
 use xsk_umem::{Batch, Frames, MOST_ITEMS};
 
@@ -20,8 +22,13 @@ pub(crate) struct Object {
     pub(crate) config: Config,
     pub(crate) rings: Vec<RingStore>,
     pub(crate) marks: Vec<u64>,
+    /// The place of the first ring, and of the first mark, of each kind.
+    first_rings: [usize; 4],
+    first_marks: [usize; 10],
     ghost sizes: { sizes_in rings.items ≡ sizes_of config },
     ghost places: { vec_len marks ≡ mark_places_of config },
+    ghost rings_begin: { first_rings ≡ ring_bases config },
+    ghost marks_begin: { first_marks ≡ mark_bases config },
 }
 
 impl Object {
@@ -29,7 +36,8 @@ impl Object {
     ghost use Rattle.std.specs.List.{slice_index_or};
     ghost use Rattle.xsk_umem.specs.Frames.{Frames as Queue};
     ghost use Rattle.xsk_model.specs.Config.{HasRing, IsLawful, size_of};
-    ghost use Rattle.xsk_model.specs.Marks.{HasMark, mark_place as place_of_mark};
+    ghost use Rattle.xsk_model.specs.Marks.{HasMark, mark_place as place_of_mark, mark_places_of};
+    ghost use Rattle.xsk_model.specs.Rings.{place as place_of_ring, places_of};
     ghost use Rattle.xsk_model.specs.Object.{marks_after};
     ghost use Rattle.xsk_model.specs.Opening.{AreFrames, opening};
     ghost use Rattle.xsk_model.specs.Stored.{stored_item};
@@ -56,10 +64,38 @@ impl Object {
             return Err(config);
         };
         Ok(Object {
+            first_rings: first_rings(&config),
+            first_marks: first_marks(&config),
             config,
             rings,
             marks,
         })
+    }
+
+    /// The place of a ring, which must exist.
+    #[inline(always)]
+    fn ring_place(&self, ring: Ring) -> usize
+        requires { HasRing self.now.config ring }
+        ensures value { result ≡ place_of_ring self.now.config ring }
+        ensures within { result < places_of self.now.config }
+    {
+        // For the proof: the configuration is lawful.
+        let _sockets = self.config.sockets();
+        let (kind, number) = ring_number(ring);
+        self.first_rings[kind] + number
+    }
+
+    /// The place of a mark. What the mark belongs to must exist.
+    #[inline(always)]
+    fn mark_place(&self, mark: Mark) -> usize
+        requires { HasMark self.now.config mark }
+        ensures value { result ≡ place_of_mark self.now.config mark }
+        ensures within { result < mark_places_of self.now.config }
+    {
+        // For the proof: the configuration is lawful.
+        let _sockets = self.config.sockets();
+        let (kind, number) = mark_number(mark);
+        self.first_marks[kind] + number
     }
 
     /// Puts all frames into the FILL rings, pool by pool.
@@ -84,7 +120,7 @@ impl Object {
         ensures granted { IsOk result ↔ (count ≤ free_in (size_of self.old.config ring) (part_in self.old.config (parts_of self.old.rings.items) ring)) }
         ensures full { IfErr result (λ free. free ≡ free_in (size_of self.old.config ring) (part_in self.old.config (parts_of self.old.rings.items) ring)) }
     {
-        let place = ring_place(&self.config, ring);
+        let place = self.ring_place(ring);
         self.rings[place].reserve(count)
     }
 
@@ -102,7 +138,7 @@ impl Object {
         ensures noted { noted_in log.new ≡ map (stored_item self.old.config.geometry self.old.config.sg) items.old }
         ensures left { items.new ≡ [] }
     {
-        let place = ring_place(&self.config, ring);
+        let place = self.ring_place(ring);
         put_items(&mut self.rings[place], log, &self.config, items);
     }
 
@@ -120,7 +156,7 @@ impl Object {
         ensures noted { noted_in log.new ≡ map (stored_item self.old.config.geometry self.old.config.sg) items.new }
         ensures items { items.new ≡ take count (part_in self.old.config (parts_of self.old.rings.items) ring).out }
     {
-        let place = ring_place(&self.config, ring);
+        let place = self.ring_place(ring);
         take_items(&mut self.rings[place], log, count, items);
     }
 
@@ -130,7 +166,7 @@ impl Object {
         ensures changes { ChangesRing self.old self.new ring (Release ring count) }
         ensures kept { (notes : Notes) → AllKept self.old.config notes self.old.rings.items → AllKept self.old.config notes self.new.rings.items }
     {
-        let place = ring_place(&self.config, ring);
+        let place = self.ring_place(ring);
         self.rings[place].release(count);
     }
 
@@ -141,7 +177,7 @@ impl Object {
         ensures marks { self.new.marks.items ≡ marks_after self.old.config self.old.marks.items (Swap mark value) }
         ensures old { result ≡ slice_index_or self.old.marks.items (place_of_mark self.old.config mark) 0 }
     {
-        let place = mark_place(&self.config, mark);
+        let place = self.mark_place(mark);
         mem::replace(&mut self.marks[place], value)
     }
 
@@ -150,7 +186,7 @@ impl Object {
         requires { HasMark self.now.config mark }
         ensures { result ≡ slice_index_or self.now.marks.items (place_of_mark self.now.config mark) 0 }
     {
-        let place = mark_place(&self.config, mark);
+        let place = self.mark_place(mark);
         self.marks[place]
     }
 
@@ -180,7 +216,7 @@ impl Object {
         ensures room { result.0 ≡ (part_in self.now.config (parts_of self.now.rings.items) ring).room }
         ensures held { result.1 ≡ (part_in self.now.config (parts_of self.now.rings.items) ring).held }
     {
-        let place = ring_place(&self.config, ring);
+        let place = self.ring_place(ring);
         self.rings[place].taken()
     }
 

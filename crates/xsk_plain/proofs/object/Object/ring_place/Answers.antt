@@ -1,0 +1,14 @@
+use Rattle.std.proofs.Common.{ℕ, List, ◌≡◌, ◌+◌, ◌<◌, ap, subst, sym, slice_index_or, ◌∙◌}
+use Rattle.xsk_model.proofs.Places.{place_below}
+use Rattle.xsk_model.specs.Rings.{places_of}
+use Rattle.xsk_plain.proofs.object.Object.ring_place.Goals as goal
+
+pub returns-clause-value : goal.returns-clause-value
+returns-clause-value c =
+    let o = c.args.self.now in
+    ap (λ (xs : List ℕ). slice_index_or xs c.ring_number-kind.result.0 0 + c.ring_number-kind.result.1) o.rings_begin ∙ c.ring_number-kind.ensures.place o.config
+
+pub returns-clause-within : goal.returns-clause-within
+returns-clause-within c =
+    let o = c.args.self.now in
+    subst (λ n. n < places_of o.config) (sym (returns-clause-value c)) (place_below o.config c.args.ring c.requires)
