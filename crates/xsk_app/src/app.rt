@@ -98,36 +98,37 @@ impl<'a> App<'a> {
     {
         let mut items = Batch::new();
         let answer = split_reply(reply, &mut items);
-        let ask = self.step(answer, &mut items);
-        join_ask(ask, items)
+        let mut asked = None;
+        self.step(answer, &mut items, &mut asked);
+        join_ask(asked, items)
     }
 
     /// Goes on as `next` does, with the items of a reply taken from the batch, and those of a call put there; `None` tells
     /// that it has ended. No batch is moved by it. The batch must be empty unless items were taken, and is left empty
     /// unless the call is a Submit.
     #[inline(always)]
-    pub fn step(&mut self, answer: Option<Answer>, items: &mut Batch) -> Option<Ask>
+    pub fn step(&mut self, answer: Option<Answer>, items: &mut Batch, asked: &mut Option<Ask>)
         requires comes { CanCome self.old.expected (joined_answer answer items.old) }
         requires lent { IsLent answer items.old }
-        ensures expected { self.new.expected ≡ expected_of (joined_ask result items.new) }
-        ensures given_back { IsGivenBack result items.new }
+        ensures expected { self.new.expected ≡ expected_of (joined_ask asked.new items.new) }
+        ensures given_back { IsGivenBack asked.new items.new }
         ensures same { (self.new.config ≡ self.old.config) × (self.new.app ≡ self.old.app) }
-        ensures begins { (m : AManner) (c : AConfig) (app : ℕ) → IsNew m c app self.old → joined_answer answer items.old ≡ None → StandsWith m c app self.new (joined_ask result items.new) [] }
+        ensures begins { (m : AManner) (c : AConfig) (app : ℕ) → IsNew m c app self.old → joined_answer answer items.old ≡ None → StandsWith m c app self.new (joined_ask asked.new items.new) [] }
         ensures goes_on { (m : AManner) (c : AConfig) (app : ℕ) (l : List Told) (call : ACall) (r : AReply)
             → Stands m c app self.old call l → joined_answer answer items.old ≡ Some r → Suits c l call r
-            → StandsWith m c app self.new (joined_ask result items.new) (with_told l call r) }
+            → StandsWith m c app self.new (joined_ask asked.new items.new) (with_told l call r) }
         ensures tells_first { (m : AManner) (c : AConfig) (app : ℕ) → IsNew m c app self.old → joined_answer answer items.old ≡ None
-            → TellsWith m c app self.new (joined_ask result items.new) [] }
+            → TellsWith m c app self.new (joined_ask asked.new items.new) [] }
         ensures tells { (m : AManner) (c : AConfig) (app : ℕ) (l : List Told) (call : ACall) (r : AReply)
             → Stands m c app self.old call l → joined_answer answer items.old ≡ Some r → Suits c l call r
-            → TellsWith m c app self.new (joined_ask result items.new) (with_told l call r) }
+            → TellsWith m c app self.new (joined_ask asked.new items.new) (with_told l call r) }
         ensures resumes { (c : AConfig) (app : ℕ) (start : AppKept) (past : List Told) → IsResumed c app start past self.old → joined_answer answer items.old ≡ None
-            → StandsFromWith c app start past self.new (joined_ask result items.new) [] }
+            → StandsFromWith c app start past self.new (joined_ask asked.new items.new) [] }
         ensures goes_on_from { (c : AConfig) (app : ℕ) (start : AppKept) (past l : List Told) (call : ACall) (r : AReply)
             → StandsFrom c app start past self.old call l → joined_answer answer items.old ≡ Some r → Fits c (past ++ l) call r
-            → StandsFromWith c app start past self.new (joined_ask result items.new) (with_told l call r) }
+            → StandsFromWith c app start past self.new (joined_ask asked.new items.new) (with_told l call r) }
     {
-        self.machine.step(answer, items)
+        self.machine.step(answer, items, asked);
     }
 
     /// All frames that it has go behind those of the queue, each with its bytes: those of the items that are pending, lane by lane,

@@ -50,18 +50,18 @@ impl<'a> Machine<'a> {
     }
 
     /// Closes the socket where that is due, and begins with the lanes where it isn't.
-    pub(crate) fn begin_closing(&mut self, socket: u32) -> Ask
+    pub(crate) fn begin_closing(&mut self, socket: u32, asked: &mut Ask)
         requires mine { socket_in (shut_of self.old.config.now self.old.app) ≡ Some socket }
-        ensures expected { expects self.new.wait ≡ expected_by (joined_call result []) }
-        ensures goes { GoesOn self.old.config.now self.old.app self.new (act.Call (joined_call result [])) (close_first self.old.config.now self.old.app (Some (shut_with self.old.config.now self.old.app socket)) (kept_by self.old) (turn_lanes self.old.config.now self.old.app)) }
+        ensures expected { expects self.new.wait ≡ expected_by (joined_call asked.new []) }
+        ensures goes { GoesOn self.old.config.now self.old.app self.new (act.Call (joined_call asked.new [])) (close_first self.old.config.now self.old.app (Some (shut_with self.old.config.now self.old.app socket)) (kept_by self.old) (turn_lanes self.old.config.now self.old.app)) }
         ensures same { IsSame self.old self.new }
     {
         // The configuration is lawful.
         let _sockets = self.config.sockets();
         if self.may_close(socket) {
-            self.lower_from(socket, 0)
+            self.lower_from(socket, 0, asked);
         } else {
-            self.begin_lanes()
+            self.begin_lanes(asked);
         }
     }
 
@@ -110,37 +110,37 @@ impl<'a> Machine<'a> {
     }
 
     /// Lowers the first cell from this one on that held the socket at the opening, and tells that it is closed where there is none.
-    pub(crate) fn lower_from(&mut self, socket: u32, index: u32) -> Ask
+    pub(crate) fn lower_from(&mut self, socket: u32, index: u32, asked: &mut Ask)
         requires known { socket < length self.old.config.now.sockets }
         requires index { index ≤ 64 }
-        ensures expected { expects self.new.wait ≡ expected_by (joined_call result []) }
-        ensures goes { GoesOn self.old.config.now self.old.app self.new (act.Call (joined_call result [])) (lower_from self.old.config.now self.old.app socket index (kept_by self.old)) }
+        ensures expected { expects self.new.wait ≡ expected_by (joined_call asked.new []) }
+        ensures goes { GoesOn self.old.config.now self.old.app self.new (act.Call (joined_call asked.new [])) (lower_from self.old.config.now self.old.app socket index (kept_by self.old)) }
         ensures same { IsSame self.old self.new }
     {
         let port = port_of(self.config, socket);
         match first_cell(self.config, port, socket, index) {
             Some(index) => {
                 self.wait = Wait::LowerCell { socket, index };
-                Ask::Swap(Mark::Cell(port, index), 0)
+                *asked = Ask::Swap(Mark::Cell(port, index), 0);
             }
             None => {
                 self.wait = Wait::TellClosing { socket };
-                Ask::Swap(Mark::Closing(socket), 1)
+                *asked = Ask::Swap(Mark::Closing(socket), 1);
             }
         }
     }
 
     /// Wakes the socket's driver, where the flags are used, once it told that the socket is closed, and begins with the lanes.
-    pub(crate) fn go_on_closed(&mut self, socket: u32) -> Ask
-        ensures expected { expects self.new.wait ≡ expected_by (joined_call result []) }
-        ensures goes { GoesOn self.old.config.now self.old.app self.new (act.Call (joined_call result [])) (wake_closed self.old.config.now (pair_of self.old.config.now self.old.app (side_by self.old.config.now self.old.app socket)) (with_begun (kept_by self.old)) (turn_lanes self.old.config.now self.old.app (with_begun (kept_by self.old)))) }
+    pub(crate) fn go_on_closed(&mut self, socket: u32, asked: &mut Ask)
+        ensures expected { expects self.new.wait ≡ expected_by (joined_call asked.new []) }
+        ensures goes { GoesOn self.old.config.now self.old.app self.new (act.Call (joined_call asked.new [])) (wake_closed self.old.config.now (pair_of self.old.config.now self.old.app (side_by self.old.config.now self.old.app socket)) (with_begun (kept_by self.old)) (turn_lanes self.old.config.now self.old.app (with_begun (kept_by self.old)))) }
         ensures same { IsSame self.old self.new }
     {
         self.begun = true;
         if self.config.wakeup() {
-            self.kick(self.shut_pair(socket), Next::Lanes)
+            self.kick(self.shut_pair(socket), Next::Lanes, asked);
         } else {
-            self.begin_lanes()
+            self.begin_lanes(asked);
         }
     }
 
@@ -176,29 +176,29 @@ impl<'a> Machine<'a> {
     }
 
     /// Opens a lane: once the socket is closed, a closed one only to drain it.
-    pub(crate) fn open_lane(&mut self, lane: usize) -> Ask
+    pub(crate) fn open_lane(&mut self, lane: usize, asked: &mut Ask)
         requires { lane < vec_len self.old.pending }
-        ensures expected { expects self.new.wait ≡ expected_by (joined_call result []) }
-        ensures goes { doing self.old.config.now self.old.app self.new (act.Call (joined_call result [])) ≡ from_lane self.old.config.now self.old.app lane (noted_by self.old.turn) (kept_by self.old) }
+        ensures expected { expects self.new.wait ≡ expected_by (joined_call asked.new []) }
+        ensures goes { doing self.old.config.now self.old.app self.new (act.Call (joined_call asked.new [])) ≡ from_lane self.old.config.now self.old.app lane (noted_by self.old.turn) (kept_by self.old) }
         ensures same { IsSame self.old self.new }
     {
         if self.drains(lane) {
-            self.peek_closed(lane)
+            self.peek_closed(lane, asked);
         } else {
-            self.visit_lane(lane)
+            self.visit_lane(lane, asked);
         }
     }
 
     /// Peeks a closed lane's RX ring.
-    pub(crate) fn peek_closed(&mut self, lane: usize) -> Ask
+    pub(crate) fn peek_closed(&mut self, lane: usize, asked: &mut Ask)
         requires lane { lane < vec_len self.old.pending }
         requires closed { drains self.old.config.now self.old.app lane (kept_by self.old) ≡ true }
-        ensures expected { expects self.new.wait ≡ expected_by (joined_call result []) }
-        ensures goes { doing self.old.config.now self.old.app self.new (act.Call (joined_call result [])) ≡ from_lane self.old.config.now self.old.app lane (noted_by self.old.turn) (kept_by self.old) }
+        ensures expected { expects self.new.wait ≡ expected_by (joined_call asked.new []) }
+        ensures goes { doing self.old.config.now self.old.app self.new (act.Call (joined_call asked.new [])) ≡ from_lane self.old.config.now self.old.app lane (noted_by self.old.turn) (kept_by self.old) }
         ensures same { IsSame self.old self.new }
     {
         self.wait = Wait::DrainRx { lane };
-        Ask::Peek(Ring::Rx(self.ways[lane].rx), self.batch)
+        *asked = Ask::Peek(Ring::Rx(self.ways[lane].rx), self.batch);
     }
 
     /// Goes on with what stood on a closed lane's RX ring.
@@ -207,69 +207,71 @@ impl<'a> Machine<'a> {
         lane: usize,
         answer: Option<Answer>,
         items: &mut Batch,
-    ) -> Option<Ask>
+        asked: &mut Option<Ask>,
+    )
         requires at { self.old.wait ≡ wait.DrainRx lane }
         requires comes { CanCome (expects self.old.wait) (joined_answer answer items.old) }
         requires lent { IsLent answer items.old }
-        ensures expected { expects self.new.wait ≡ expected_of (joined_ask result items.new) }
-        ensures goes { GoesOn self.old.config.now self.old.app self.new (joined_ask result items.new) (to_do self.old.config.now self.old.app self.old (joined_answer answer items.old)) }
+        ensures expected { expects self.new.wait ≡ expected_of (joined_ask asked.new items.new) }
+        ensures goes { GoesOn self.old.config.now self.old.app self.new (joined_ask asked.new items.new) (to_do self.old.config.now self.old.app self.old (joined_answer answer items.old)) }
         ensures same { IsSame self.old self.new }
-        ensures given_back { IsGivenBack result items.new }
+        ensures given_back { IsGivenBack asked.new items.new }
     {
         match answer {
-            Some(Answer::Items) => self.take_drained(lane, items),
-            Some(Answer::Empty) => self.go_to_lane(lane + 1),
+            Some(Answer::Items) => self.take_drained(lane, items, asked),
+            Some(Answer::Empty) => self.go_to_lane(lane + 1, asked),
             _ => unreachable!(),
         }
     }
 
     /// Keeps the frames of the items that stood there with those that go back.
-    fn take_drained(&mut self, lane: usize, items: &mut Batch) -> Option<Ask>
+    fn take_drained(&mut self, lane: usize, items: &mut Batch, asked: &mut Option<Ask>)
         requires lane { lane < vec_len self.old.pending }
-        ensures expected { expects self.new.wait ≡ expected_of (joined_ask result items.new) }
-        ensures goes { doing self.old.config.now self.old.app self.new (joined_ask result items.new) ≡ drain_by self.old.config.now self.old.app lane (noted_by self.old.turn) (kept_by self.old) (reply.Items items.old) }
+        ensures expected { expects self.new.wait ≡ expected_of (joined_ask asked.new items.new) }
+        ensures goes { doing self.old.config.now self.old.app self.new (joined_ask asked.new items.new) ≡ drain_by self.old.config.now self.old.app lane (noted_by self.old.turn) (kept_by self.old) (reply.Items items.old) }
         ensures same { IsSame self.old self.new }
-        ensures given_back { IsGivenBack result items.new }
+        ensures given_back { IsGivenBack asked.new items.new }
     {
         let count = items.len();
         let way = self.ways[lane];
         self.wait = Wait::ReleaseDrained { lane };
         keep_behind(&mut self.backs[way.side], items);
-        Some(Ask::Release(Ring::Rx(way.rx), count))
+        *asked = Some(Ask::Release(Ring::Rx(way.rx), count));
     }
 
     /// Ends a turn, where it has closed a socket with a look whether that is acknowledged before.
-    pub(crate) fn end_turn(&mut self) -> Option<Ask>
-        ensures expected { expects self.new.wait ≡ expected_of (joined_ask result []) }
-        ensures goes { GoesOn self.old.config.now self.old.app self.new (joined_ask result []) (end_turn self.old.config.now self.old.app (noted_by self.old.turn) (kept_by self.old)) }
+    pub(crate) fn end_turn(&mut self, asked: &mut Option<Ask>)
+        ensures expected { expects self.new.wait ≡ expected_of (joined_ask asked.new []) }
+        ensures goes { GoesOn self.old.config.now self.old.app self.new (joined_ask asked.new []) (end_turn self.old.config.now self.old.app (noted_by self.old.turn) (kept_by self.old)) }
         ensures same { IsSame self.old self.new }
     {
         match self.shut {
-            Some(socket) => self.look_acked(socket),
-            None => self.end_by_facts(),
+            Some(socket) => self.look_acked(socket, asked),
+            None => self.end_by_facts(asked),
         }
     }
 
     /// Looks whether the driver has acknowledged the closing, until it has.
-    pub(crate) fn look_acked(&mut self, socket: u32) -> Option<Ask>
-        ensures expected { expects self.new.wait ≡ expected_of (joined_ask result []) }
-        ensures goes { GoesOn self.old.config.now self.old.app self.new (joined_ask result []) (look_acked (Some (shut_with self.old.config.now self.old.app socket)) (kept_by self.old) (end_by self.old.config.now self.old.app (noted_by self.old.turn))) }
+    pub(crate) fn look_acked(&mut self, socket: u32, asked: &mut Option<Ask>)
+        ensures expected { expects self.new.wait ≡ expected_of (joined_ask asked.new []) }
+        ensures goes { GoesOn self.old.config.now self.old.app self.new (joined_ask asked.new []) (look_acked (Some (shut_with self.old.config.now self.old.app socket)) (kept_by self.old) (end_by self.old.config.now self.old.app (noted_by self.old.turn))) }
         ensures same { IsSame self.old self.new }
     {
         if self.begun && !self.acked {
             self.wait = Wait::LookAcked;
-            return Some(Ask::Look(Mark::Acked(socket)));
+            *asked = Some(Ask::Look(Mark::Acked(socket)));
+            return;
         }
-        self.end_by_facts()
+        self.end_by_facts(asked);
     }
 
-    pub(crate) fn learn_acked(&mut self, acked: u64) -> Option<Ask>
-        ensures expected { expects self.new.wait ≡ expected_of (joined_ask result []) }
-        ensures goes { GoesOn self.old.config.now self.old.app self.new (joined_ask result []) (end_by self.old.config.now self.old.app (noted_by self.old.turn) (with_acked (kept_by self.old) acked)) }
+    pub(crate) fn learn_acked(&mut self, acked: u64, asked: &mut Option<Ask>)
+        ensures expected { expects self.new.wait ≡ expected_of (joined_ask asked.new []) }
+        ensures goes { GoesOn self.old.config.now self.old.app self.new (joined_ask asked.new []) (end_by self.old.config.now self.old.app (noted_by self.old.turn) (with_acked (kept_by self.old) acked)) }
         ensures same { IsSame self.old self.new }
     {
         self.acked = acked == 1;
-        self.end_by_facts()
+        self.end_by_facts(asked);
     }
 }
 

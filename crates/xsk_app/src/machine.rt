@@ -42,6 +42,9 @@ use xsk_umem::Batch;
 /// The sides of the application: its two ports.
 pub(crate) const SIDES: usize = 2;
 
+/// What stands in the place of the next call where none was written there before.
+const UNASKED: Ask = Ask::Look(Mark::TxDone(0));
+
 /// Where it goes on behind a wake: behind a lane that had packets, with the next frames of a side, with the wake of the second
 /// driver, with the lanes, or with the next turn.
 #[derive(Clone, Copy)]
@@ -153,37 +156,43 @@ impl<'a> Machine<'a> {
     ghost use Rattle.xsk_app.specs.Stands.{GoesOn, to_do, doing, by_reply, IsSame, HasSameRest, noted_by, kept_by, from_lane, after_full_lane, from_side, after_full_side, after_group, after, wake_by, told_tx_done};
     ghost use Rattle.xsk_turns.specs.Script.{again};
 
-    /// Goes on with the answer to the last call, whose items stand in the batch, and leaves there the items of the next one.
+    /// Goes on with the answer to the last call, whose items stand in the batch, and writes the next one, none where it has ended,
+    /// with its items there.
     #[inline(always)]
-    pub(crate) fn step(&mut self, answer: Option<Answer>, items: &mut Batch) -> Option<Ask>
+    pub(crate) fn step(
+        &mut self,
+        answer: Option<Answer>,
+        items: &mut Batch,
+        asked: &mut Option<Ask>,
+    )
         requires comes { CanCome (expects self.old.wait) (joined_answer answer items.old) }
         requires lent { IsLent answer items.old }
-        ensures expected { expects self.new.wait ≡ expected_of (joined_ask result items.new) }
-        ensures goes { GoesOn self.old.config.now self.old.app self.new (joined_ask result items.new) (to_do self.old.config.now self.old.app self.old (joined_answer answer items.old)) }
+        ensures expected { expects self.new.wait ≡ expected_of (joined_ask asked.new items.new) }
+        ensures goes { GoesOn self.old.config.now self.old.app self.new (joined_ask asked.new items.new) (to_do self.old.config.now self.old.app self.old (joined_answer answer items.old)) }
         ensures same { IsSame self.old self.new }
-        ensures given_back { IsGivenBack result items.new }
+        ensures given_back { IsGivenBack asked.new items.new }
     {
         match self.wait {
-            Wait::DrainRx { lane } => self.go_on_from_closed(lane, answer, items),
-            Wait::ReleaseDrained { lane } => self.go_on_full_lane(lane),
-            Wait::PeekRx { lane } => self.go_on_from_rx(lane, answer, items),
-            Wait::ReserveTx { lane } => self.go_on_at_tx(lane, answer, items),
-            Wait::SubmitTx { lane } => self.wake_lane(lane),
-            Wait::PeekComp { side } => self.go_on_from_comp(side, answer, items),
-            Wait::ReleaseComp { side } => self.give_back(side),
+            Wait::DrainRx { lane } => self.go_on_from_closed(lane, answer, items, asked),
+            Wait::ReleaseDrained { lane } => self.go_on_full_lane(lane, asked),
+            Wait::PeekRx { lane } => self.go_on_from_rx(lane, answer, items, asked),
+            Wait::ReserveTx { lane } => self.go_on_at_tx(lane, answer, items, asked),
+            Wait::SubmitTx { lane } => self.wake_lane(lane, asked),
+            Wait::PeekComp { side } => self.go_on_from_comp(side, answer, items, asked),
+            Wait::ReleaseComp { side } => self.give_back(side, asked),
             Wait::ReserveFill { side, home, count } => {
-                self.go_on_at_fill(side, home, count, answer, items)
+                self.go_on_at_fill(side, home, count, answer, items, asked);
             }
             Wait::SubmitFill { side, home } => {
-                self.wake(Mark::NeedFill(home), home, Next::Side { side })
+                self.wake(Mark::NeedFill(home), home, Next::Side { side }, asked);
             }
             Wait::LookNeed { pair, next } => match answer {
-                Some(Answer::Old(need)) => self.learn_need(pair, next, need),
+                Some(Answer::Old(need)) => self.learn_need(pair, next, need, asked),
                 _ => unreachable!(),
             },
-            Wait::Kick { next } => self.go_on_behind(next),
+            Wait::Kick { next } => self.go_on_behind(next, asked),
             Wait::LookAcked => match answer {
-                Some(Answer::Old(acked)) => self.learn_acked(acked),
+                Some(Answer::Old(acked)) => self.learn_acked(acked, asked),
                 _ => unreachable!(),
             },
             Wait::Start
@@ -192,32 +201,32 @@ impl<'a> Machine<'a> {
             | Wait::ReleaseRx { .. }
             | Wait::LookRxDone { .. }
             | Wait::TellTxDone
-            | Wait::LookGone { .. } => Some(self.go_on_bare(answer)),
+            | Wait::LookGone { .. } => self.go_on_bare(answer, asked.get_or_insert(UNASKED)),
             Wait::Ended => unreachable!(),
         }
     }
 
     /// Goes on from a waiting point with no items to a call with none.
     #[inline(always)]
-    fn go_on_bare(&mut self, answer: Option<Answer>) -> Ask
+    fn go_on_bare(&mut self, answer: Option<Answer>, asked: &mut Ask)
         requires bare { IsBare self.old.wait }
         requires comes { CanCome (expects self.old.wait) (joined_answer answer []) }
-        ensures expected { expects self.new.wait ≡ expected_by (joined_call result []) }
-        ensures goes { GoesOn self.old.config.now self.old.app self.new (act.Call (joined_call result [])) (to_do self.old.config.now self.old.app self.old (joined_answer answer [])) }
+        ensures expected { expects self.new.wait ≡ expected_by (joined_call asked.new []) }
+        ensures goes { GoesOn self.old.config.now self.old.app self.new (act.Call (joined_call asked.new [])) (to_do self.old.config.now self.old.app self.old (joined_answer answer [])) }
         ensures same { IsSame self.old self.new }
     {
         match self.wait {
-            Wait::Start => self.begin(),
-            Wait::LowerCell { socket, index } => self.lower_from(socket, index + 1),
-            Wait::TellClosing { socket } => self.go_on_closed(socket),
-            Wait::ReleaseRx { lane } => self.reserve_tx(lane),
+            Wait::Start => self.begin(asked),
+            Wait::LowerCell { socket, index } => self.lower_from(socket, index + 1, asked),
+            Wait::TellClosing { socket } => self.go_on_closed(socket, asked),
+            Wait::ReleaseRx { lane } => self.reserve_tx(lane, asked),
             Wait::LookRxDone { side } => match answer {
-                Some(Answer::Old(done)) => self.learn_rx_done(side, done),
+                Some(Answer::Old(done)) => self.learn_rx_done(side, done, asked),
                 _ => unreachable!(),
             },
-            Wait::TellTxDone => self.stop_sending(),
+            Wait::TellTxDone => self.stop_sending(asked),
             Wait::LookGone { side } => match answer {
-                Some(Answer::Old(gone)) => self.learn_gone(side, gone),
+                Some(Answer::Old(gone)) => self.learn_gone(side, gone, asked),
                 _ => unreachable!(),
             },
             _ => unreachable!(),
@@ -230,35 +239,42 @@ impl<'a> Machine<'a> {
         lane: usize,
         answer: Option<Answer>,
         items: &mut Batch,
-    ) -> Option<Ask>
+        asked: &mut Option<Ask>,
+    )
         requires at { self.old.wait ≡ wait.PeekRx lane }
         requires comes { CanCome (expects self.old.wait) (joined_answer answer items.old) }
         requires lent { IsLent answer items.old }
-        ensures expected { expects self.new.wait ≡ expected_of (joined_ask result items.new) }
-        ensures goes { GoesOn self.old.config.now self.old.app self.new (joined_ask result items.new) (to_do self.old.config.now self.old.app self.old (joined_answer answer items.old)) }
+        ensures expected { expects self.new.wait ≡ expected_of (joined_ask asked.new items.new) }
+        ensures goes { GoesOn self.old.config.now self.old.app self.new (joined_ask asked.new items.new) (to_do self.old.config.now self.old.app self.old (joined_answer answer items.old)) }
         ensures same { IsSame self.old self.new }
-        ensures given_back { IsGivenBack result items.new }
+        ensures given_back { IsGivenBack asked.new items.new }
     {
         match answer {
-            Some(Answer::Items) => self.take_received(lane, items),
-            Some(Answer::Empty) => self.go_to_lane(lane + 1),
+            Some(Answer::Items) => self.take_received(lane, items, asked),
+            Some(Answer::Empty) => self.go_to_lane(lane + 1, asked),
             _ => unreachable!(),
         }
     }
 
     /// Goes on by whether the lane's TX ring has room.
-    fn go_on_at_tx(&mut self, lane: usize, answer: Option<Answer>, items: &mut Batch) -> Option<Ask>
+    fn go_on_at_tx(
+        &mut self,
+        lane: usize,
+        answer: Option<Answer>,
+        items: &mut Batch,
+        asked: &mut Option<Ask>,
+    )
         requires at { self.old.wait ≡ wait.ReserveTx lane }
         requires comes { CanCome (expects self.old.wait) (joined_answer answer items.old) }
         requires lent { IsLent answer items.old }
-        ensures expected { expects self.new.wait ≡ expected_of (joined_ask result items.new) }
-        ensures goes { GoesOn self.old.config.now self.old.app self.new (joined_ask result items.new) (to_do self.old.config.now self.old.app self.old (joined_answer answer items.old)) }
+        ensures expected { expects self.new.wait ≡ expected_of (joined_ask asked.new items.new) }
+        ensures goes { GoesOn self.old.config.now self.old.app self.new (joined_ask asked.new items.new) (to_do self.old.config.now self.old.app self.old (joined_answer answer items.old)) }
         ensures same { IsSame self.old self.new }
-        ensures given_back { IsGivenBack result items.new }
+        ensures given_back { IsGivenBack asked.new items.new }
     {
         match answer {
-            Some(Answer::Granted) => self.send_on(lane, items),
-            Some(Answer::Full(_)) => self.go_on_full_lane(lane),
+            Some(Answer::Granted) => self.send_on(lane, items, asked),
+            Some(Answer::Full(_)) => self.go_on_full_lane(lane, asked),
             _ => unreachable!(),
         }
     }
@@ -269,18 +285,19 @@ impl<'a> Machine<'a> {
         side: usize,
         answer: Option<Answer>,
         items: &mut Batch,
-    ) -> Option<Ask>
+        asked: &mut Option<Ask>,
+    )
         requires at { self.old.wait ≡ wait.PeekComp side }
         requires comes { CanCome (expects self.old.wait) (joined_answer answer items.old) }
         requires lent { IsLent answer items.old }
-        ensures expected { expects self.new.wait ≡ expected_of (joined_ask result items.new) }
-        ensures goes { GoesOn self.old.config.now self.old.app self.new (joined_ask result items.new) (to_do self.old.config.now self.old.app self.old (joined_answer answer items.old)) }
+        ensures expected { expects self.new.wait ≡ expected_of (joined_ask asked.new items.new) }
+        ensures goes { GoesOn self.old.config.now self.old.app self.new (joined_ask asked.new items.new) (to_do self.old.config.now self.old.app self.old (joined_answer answer items.old)) }
         ensures same { IsSame self.old self.new }
-        ensures given_back { IsGivenBack result items.new }
+        ensures given_back { IsGivenBack asked.new items.new }
     {
         match answer {
-            Some(Answer::Items) => self.take_completed(side, items),
-            Some(Answer::Empty) => self.go_to_side(side + 1),
+            Some(Answer::Items) => self.take_completed(side, items, asked),
+            Some(Answer::Empty) => self.go_to_side(side + 1, asked),
             _ => unreachable!(),
         }
     }
@@ -293,35 +310,37 @@ impl<'a> Machine<'a> {
         count: u32,
         answer: Option<Answer>,
         items: &mut Batch,
-    ) -> Option<Ask>
+        asked: &mut Option<Ask>,
+    )
         requires at { self.old.wait ≡ wait.ReserveFill side home count }
         requires comes { CanCome (expects self.old.wait) (joined_answer answer items.old) }
         requires lent { IsLent answer items.old }
-        ensures expected { expects self.new.wait ≡ expected_of (joined_ask result items.new) }
-        ensures goes { GoesOn self.old.config.now self.old.app self.new (joined_ask result items.new) (to_do self.old.config.now self.old.app self.old (joined_answer answer items.old)) }
+        ensures expected { expects self.new.wait ≡ expected_of (joined_ask asked.new items.new) }
+        ensures goes { GoesOn self.old.config.now self.old.app self.new (joined_ask asked.new items.new) (to_do self.old.config.now self.old.app self.old (joined_answer answer items.old)) }
         ensures same { IsSame self.old self.new }
-        ensures given_back { IsGivenBack result items.new }
+        ensures given_back { IsGivenBack asked.new items.new }
     {
         match answer {
-            Some(Answer::Granted) => self.refill(side, home, count, items),
-            Some(Answer::Full(_)) => self.find_fill_full(side),
+            Some(Answer::Granted) => self.refill(side, home, count, items, asked),
+            Some(Answer::Full(_)) => self.find_fill_full(side, asked),
             _ => unreachable!(),
         }
     }
 
     /// Begins a turn: with the first side where nothing more is sent, and else with the first lane, before which the socket is
     /// closed where that is due.
-    pub(crate) fn begin(&mut self) -> Ask
-        ensures expected { expects self.new.wait ≡ expected_by (joined_call result []) }
-        ensures goes { GoesOn self.old.config.now self.old.app self.new (act.Call (joined_call result [])) (again (kept_by self.old)) }
+    pub(crate) fn begin(&mut self, asked: &mut Ask)
+        ensures expected { expects self.new.wait ≡ expected_by (joined_call asked.new []) }
+        ensures goes { GoesOn self.old.config.now self.old.app self.new (act.Call (joined_call asked.new [])) (again (kept_by self.old)) }
         ensures same { IsSame self.old self.new }
     {
         if self.tx_done {
-            return self.begin_sides();
+            self.begin_sides(asked);
+            return;
         }
         match self.shut {
-            Some(socket) => self.begin_closing(socket),
-            None => self.begin_lanes(),
+            Some(socket) => self.begin_closing(socket, asked),
+            None => self.begin_lanes(asked),
         }
     }
 
@@ -338,104 +357,104 @@ impl<'a> Machine<'a> {
         }
     }
 
-    fn begin_sides(&mut self) -> Ask
-        ensures expected { expects self.new.wait ≡ expected_by (joined_call result []) }
-        ensures goes { doing self.old.config.now self.old.app self.new (act.Call (joined_call result [])) ≡ turn_sides self.old.config.now self.old.app (noted_first (kept_by self.old)) (kept_by self.old) }
+    fn begin_sides(&mut self, asked: &mut Ask)
+        ensures expected { expects self.new.wait ≡ expected_by (joined_call asked.new []) }
+        ensures goes { doing self.old.config.now self.old.app self.new (act.Call (joined_call asked.new [])) ≡ turn_sides self.old.config.now self.old.app (noted_first (kept_by self.old)) (kept_by self.old) }
         ensures same { IsSame self.old self.new }
     {
         self.turn = self.first_turn();
-        self.open_side(0)
+        self.open_side(0, asked);
     }
 
-    pub(crate) fn begin_lanes(&mut self) -> Ask
-        ensures expected { expects self.new.wait ≡ expected_by (joined_call result []) }
-        ensures goes { GoesOn self.old.config.now self.old.app self.new (act.Call (joined_call result [])) (turn_lanes self.old.config.now self.old.app (kept_by self.old)) }
+    pub(crate) fn begin_lanes(&mut self, asked: &mut Ask)
+        ensures expected { expects self.new.wait ≡ expected_by (joined_call asked.new []) }
+        ensures goes { GoesOn self.old.config.now self.old.app self.new (act.Call (joined_call asked.new [])) (turn_lanes self.old.config.now self.old.app (kept_by self.old)) }
         ensures same { IsSame self.old self.new }
     {
         self.turn = self.first_turn();
-        self.open_lane(0)
+        self.open_lane(0, asked);
     }
 
     /// Peeks the lane's RX ring, or asks for places on its TX ring where packets are pending.
-    pub(crate) fn visit_lane(&mut self, lane: usize) -> Ask
+    pub(crate) fn visit_lane(&mut self, lane: usize, asked: &mut Ask)
         requires lane { lane < vec_len self.old.pending }
         requires other { drains self.old.config.now self.old.app lane (kept_by self.old) ≡ false }
-        ensures expected { expects self.new.wait ≡ expected_by (joined_call result []) }
-        ensures goes { doing self.old.config.now self.old.app self.new (act.Call (joined_call result [])) ≡ from_lane self.old.config.now self.old.app lane (noted_by self.old.turn) (kept_by self.old) }
+        ensures expected { expects self.new.wait ≡ expected_by (joined_call asked.new []) }
+        ensures goes { doing self.old.config.now self.old.app self.new (act.Call (joined_call asked.new [])) ≡ from_lane self.old.config.now self.old.app lane (noted_by self.old.turn) (kept_by self.old) }
         ensures same { IsSame self.old self.new }
     {
         if self.pending[lane].is_empty() {
             self.wait = Wait::PeekRx { lane };
-            Ask::Peek(Ring::Rx(self.ways[lane].rx), self.batch)
+            *asked = Ask::Peek(Ring::Rx(self.ways[lane].rx), self.batch);
         } else {
-            self.reserve_tx(lane)
+            self.reserve_tx(lane, asked);
         }
     }
 
-    pub(crate) fn go_to_lane(&mut self, lane: usize) -> Option<Ask>
-        ensures expected { expects self.new.wait ≡ expected_of (joined_ask result []) }
-        ensures goes { GoesOn self.old.config.now self.old.app self.new (joined_ask result []) (from_lane self.old.config.now self.old.app lane (noted_by self.old.turn) (kept_by self.old)) }
+    pub(crate) fn go_to_lane(&mut self, lane: usize, asked: &mut Option<Ask>)
+        ensures expected { expects self.new.wait ≡ expected_of (joined_ask asked.new []) }
+        ensures goes { GoesOn self.old.config.now self.old.app self.new (joined_ask asked.new []) (from_lane self.old.config.now self.old.app lane (noted_by self.old.turn) (kept_by self.old)) }
         ensures same { IsSame self.old self.new }
     {
         if lane < self.pending.len() {
-            Some(self.open_lane(lane))
+            self.open_lane(lane, asked.get_or_insert(UNASKED));
         } else {
-            self.go_to_side(0)
+            self.go_to_side(0, asked);
         }
     }
 
     /// Goes on behind a lane that had packets.
-    pub(crate) fn go_on_full_lane(&mut self, lane: usize) -> Option<Ask>
+    pub(crate) fn go_on_full_lane(&mut self, lane: usize, asked: &mut Option<Ask>)
         requires { lane < vec_len self.old.pending }
-        ensures expected { expects self.new.wait ≡ expected_of (joined_ask result []) }
-        ensures goes { GoesOn self.old.config.now self.old.app self.new (joined_ask result []) (after_full_lane self.old.config.now self.old.app lane (noted_by self.old.turn) (kept_by self.old)) }
+        ensures expected { expects self.new.wait ≡ expected_of (joined_ask asked.new []) }
+        ensures goes { GoesOn self.old.config.now self.old.app self.new (joined_ask asked.new []) (after_full_lane self.old.config.now self.old.app lane (noted_by self.old.turn) (kept_by self.old)) }
         ensures same { IsSame self.old self.new }
     {
         self.turn.lanes_empty = false;
-        self.go_to_lane(lane + 1)
+        self.go_to_lane(lane + 1, asked);
     }
 
     /// Keeps the items that were received on a lane that had none.
-    fn take_received(&mut self, lane: usize, items: &mut Batch) -> Option<Ask>
+    fn take_received(&mut self, lane: usize, items: &mut Batch, asked: &mut Option<Ask>)
         requires lane { lane < vec_len self.old.pending }
         requires empty { pending_at (kept_by self.old) lane ≡ [] }
-        ensures expected { expects self.new.wait ≡ expected_of (joined_ask result items.new) }
-        ensures goes { doing self.old.config.now self.old.app self.new (joined_ask result items.new) ≡ receive_lane self.old.config.now self.old.app lane (kept_by self.old) (after_full_lane self.old.config.now self.old.app lane (noted_by self.old.turn)) items.old }
+        ensures expected { expects self.new.wait ≡ expected_of (joined_ask asked.new items.new) }
+        ensures goes { doing self.old.config.now self.old.app self.new (joined_ask asked.new items.new) ≡ receive_lane self.old.config.now self.old.app lane (kept_by self.old) (after_full_lane self.old.config.now self.old.app lane (noted_by self.old.turn)) items.old }
         ensures same { IsSame self.old self.new }
-        ensures given_back { IsGivenBack result items.new }
+        ensures given_back { IsGivenBack asked.new items.new }
     {
         let count = items.len();
         let rx = self.ways[lane].rx;
         self.wait = Wait::ReleaseRx { lane };
         self.pending[lane].append(items);
         self.note_received(lane);
-        Some(Ask::Release(Ring::Rx(rx), count))
+        *asked = Some(Ask::Release(Ring::Rx(rx), count));
     }
 
     /// Asks for places on the lane's TX ring.
-    fn reserve_tx(&mut self, lane: usize) -> Ask
+    fn reserve_tx(&mut self, lane: usize, asked: &mut Ask)
         requires { lane < vec_len self.old.pending }
-        ensures expected { expects self.new.wait ≡ expected_by (joined_call result []) }
-        ensures goes { doing self.old.config.now self.old.app self.new (act.Call (joined_call result [])) ≡ pass_on self.old.config.now self.old.app lane (kept_by self.old) (after_full_lane self.old.config.now self.old.app lane (noted_by self.old.turn)) }
+        ensures expected { expects self.new.wait ≡ expected_by (joined_call asked.new []) }
+        ensures goes { doing self.old.config.now self.old.app self.new (act.Call (joined_call asked.new [])) ≡ pass_on self.old.config.now self.old.app lane (kept_by self.old) (after_full_lane self.old.config.now self.old.app lane (noted_by self.old.turn)) }
         ensures same { IsSame self.old self.new }
     {
         self.wait = Wait::ReserveTx { lane };
-        Ask::Reserve(Ring::Tx(self.ways[lane].tx), self.pending[lane].len())
+        *asked = Ask::Reserve(Ring::Tx(self.ways[lane].tx), self.pending[lane].len());
     }
 
     /// Puts the lane's pending items on its TX ring as they are, or as its manner changes them.
-    fn send_on(&mut self, lane: usize, items: &mut Batch) -> Option<Ask>
+    fn send_on(&mut self, lane: usize, items: &mut Batch, asked: &mut Option<Ask>)
         requires lane { lane < vec_len self.old.pending }
         requires empty { items.old ≡ [] }
-        ensures expected { expects self.new.wait ≡ expected_of (joined_ask result items.new) }
-        ensures goes { doing self.old.config.now self.old.app self.new (joined_ask result items.new) ≡ by_reply (pass_on self.old.config.now self.old.app lane (kept_by self.old) (after_full_lane self.old.config.now self.old.app lane (noted_by self.old.turn))) reply.Granted }
+        ensures expected { expects self.new.wait ≡ expected_of (joined_ask asked.new items.new) }
+        ensures goes { doing self.old.config.now self.old.app self.new (joined_ask asked.new items.new) ≡ by_reply (pass_on self.old.config.now self.old.app lane (kept_by self.old) (after_full_lane self.old.config.now self.old.app lane (noted_by self.old.turn))) reply.Granted }
         ensures same { IsSame self.old self.new }
-        ensures given_back { IsGivenBack result items.new }
+        ensures given_back { IsGivenBack asked.new items.new }
     {
         let tx = self.ways[lane].tx;
         self.wait = Wait::SubmitTx { lane };
         self.put_out(lane, items);
-        Some(Ask::Submit(Ring::Tx(tx)))
+        *asked = Some(Ask::Submit(Ring::Tx(tx)));
     }
 
     /// Moves the lane's pending items to the batch, by its manner.
@@ -495,289 +514,302 @@ impl<'a> Machine<'a> {
     }
 
     /// Wakes the driver of the lane's TX ring.
-    fn wake_lane(&mut self, lane: usize) -> Option<Ask>
+    fn wake_lane(&mut self, lane: usize, asked: &mut Option<Ask>)
         requires { lane < vec_len self.old.pending }
-        ensures expected { expects self.new.wait ≡ expected_of (joined_ask result []) }
-        ensures goes { GoesOn self.old.config.now self.old.app self.new (joined_ask result []) (wake self.old.config.now (mark.NeedTx (tx_of self.old.config.now self.old.app lane)) (tx_pair self.old.config.now self.old.app lane) (kept_by self.old) (after_full_lane self.old.config.now self.old.app lane (noted_by self.old.turn) (kept_by self.old))) }
+        ensures expected { expects self.new.wait ≡ expected_of (joined_ask asked.new []) }
+        ensures goes { GoesOn self.old.config.now self.old.app self.new (joined_ask asked.new []) (wake self.old.config.now (mark.NeedTx (tx_of self.old.config.now self.old.app lane)) (tx_pair self.old.config.now self.old.app lane) (kept_by self.old) (after_full_lane self.old.config.now self.old.app lane (noted_by self.old.turn) (kept_by self.old))) }
         ensures same { IsSame self.old self.new }
     {
         let way = self.ways[lane];
-        self.wake(Mark::NeedTx(way.tx), way.pair, Next::Lane { lane })
+        self.wake(Mark::NeedTx(way.tx), way.pair, Next::Lane { lane }, asked);
     }
 
     /// Looks at a ring's flag, where the flags are used, to wake the pair's driver.
-    fn wake(&mut self, need: Mark, pair: u32, next: Next) -> Option<Ask>
+    fn wake(&mut self, need: Mark, pair: u32, next: Next, asked: &mut Option<Ask>)
         requires { CanGoOn self.old.pending.items next }
-        ensures expected { expects self.new.wait ≡ expected_of (joined_ask result []) }
-        ensures goes { GoesOn self.old.config.now self.old.app self.new (joined_ask result []) (wake self.old.config.now need pair (kept_by self.old) (after self.old.config.now self.old.app next (noted_by self.old.turn) (kept_by self.old))) }
+        ensures expected { expects self.new.wait ≡ expected_of (joined_ask asked.new []) }
+        ensures goes { GoesOn self.old.config.now self.old.app self.new (joined_ask asked.new []) (wake self.old.config.now need pair (kept_by self.old) (after self.old.config.now self.old.app next (noted_by self.old.turn) (kept_by self.old))) }
         ensures same { IsSame self.old self.new }
     {
         if self.config.wakeup() {
             self.wait = Wait::LookNeed { pair, next };
-            Some(Ask::Look(need))
+            *asked = Some(Ask::Look(need));
         } else {
-            self.go_on_behind(next)
+            self.go_on_behind(next, asked);
         }
     }
 
     /// Wakes the pair's driver where the ring's flag is set.
-    fn learn_need(&mut self, pair: u32, next: Next, need: u64) -> Option<Ask>
+    fn learn_need(&mut self, pair: u32, next: Next, need: u64, asked: &mut Option<Ask>)
         requires { CanGoOn self.old.pending.items next }
-        ensures expected { expects self.new.wait ≡ expected_of (joined_ask result []) }
-        ensures goes { GoesOn self.old.config.now self.old.app self.new (joined_ask result []) (wake_by pair (kept_by self.old) (after self.old.config.now self.old.app next (noted_by self.old.turn) (kept_by self.old)) need) }
+        ensures expected { expects self.new.wait ≡ expected_of (joined_ask asked.new []) }
+        ensures goes { GoesOn self.old.config.now self.old.app self.new (joined_ask asked.new []) (wake_by pair (kept_by self.old) (after self.old.config.now self.old.app next (noted_by self.old.turn) (kept_by self.old)) need) }
         ensures same { IsSame self.old self.new }
     {
         if need == 1 {
-            Some(self.kick(pair, next))
+            self.kick(pair, next, asked.get_or_insert(UNASKED));
         } else {
-            self.go_on_behind(next)
+            self.go_on_behind(next, asked);
         }
     }
 
     /// Wakes the pair's driver.
-    pub(crate) fn kick(&mut self, pair: u32, next: Next) -> Ask
+    pub(crate) fn kick(&mut self, pair: u32, next: Next, asked: &mut Ask)
         requires { CanGoOn self.old.pending.items next }
-        ensures expected { expects self.new.wait ≡ expected_by (joined_call result []) }
-        ensures goes { GoesOn self.old.config.now self.old.app self.new (act.Call (joined_call result [])) (kick pair (kept_by self.old) (after self.old.config.now self.old.app next (noted_by self.old.turn) (kept_by self.old))) }
+        ensures expected { expects self.new.wait ≡ expected_by (joined_call asked.new []) }
+        ensures goes { GoesOn self.old.config.now self.old.app self.new (act.Call (joined_call asked.new [])) (kick pair (kept_by self.old) (after self.old.config.now self.old.app next (noted_by self.old.turn) (kept_by self.old))) }
         ensures same { IsSame self.old self.new }
     {
         self.wait = Wait::Kick { next };
-        Ask::Swap(Mark::Kick(pair), 1)
+        *asked = Ask::Swap(Mark::Kick(pair), 1);
     }
 
     /// Goes on behind a wake.
-    fn go_on_behind(&mut self, next: Next) -> Option<Ask>
+    fn go_on_behind(&mut self, next: Next, asked: &mut Option<Ask>)
         requires { CanGoOn self.old.pending.items next }
-        ensures expected { expects self.new.wait ≡ expected_of (joined_ask result []) }
-        ensures goes { GoesOn self.old.config.now self.old.app self.new (joined_ask result []) (after self.old.config.now self.old.app next (noted_by self.old.turn) (kept_by self.old)) }
+        ensures expected { expects self.new.wait ≡ expected_of (joined_ask asked.new []) }
+        ensures goes { GoesOn self.old.config.now self.old.app self.new (joined_ask asked.new []) (after self.old.config.now self.old.app next (noted_by self.old.turn) (kept_by self.old)) }
         ensures same { IsSame self.old self.new }
     {
         match next {
-            Next::Lane { lane } => self.go_on_full_lane(lane),
-            Next::Side { side } => self.give_back(side),
-            Next::Second => Some(self.kick(self.pairs[1], Next::Turn)),
-            Next::Lanes => Some(self.begin_lanes()),
-            Next::Turn => Some(self.begin()),
+            Next::Lane { lane } => self.go_on_full_lane(lane, asked),
+            Next::Side { side } => self.give_back(side, asked),
+            Next::Second => self.kick(self.pairs[1], Next::Turn, asked.get_or_insert(UNASKED)),
+            Next::Lanes => self.begin_lanes(asked.get_or_insert(UNASKED)),
+            Next::Turn => self.begin(asked.get_or_insert(UNASKED)),
         }
     }
 
     /// Peeks the side's COMPLETION ring, or gives back the frames that it has.
-    fn open_side(&mut self, side: usize) -> Ask
+    fn open_side(&mut self, side: usize, asked: &mut Ask)
         requires { side < 2 }
-        ensures expected { expects self.new.wait ≡ expected_by (joined_call result []) }
-        ensures goes { doing self.old.config.now self.old.app self.new (act.Call (joined_call result [])) ≡ from_side self.old.config.now self.old.app side (noted_by self.old.turn) (kept_by self.old) }
+        ensures expected { expects self.new.wait ≡ expected_by (joined_call asked.new []) }
+        ensures goes { doing self.old.config.now self.old.app self.new (act.Call (joined_call asked.new [])) ≡ from_side self.old.config.now self.old.app side (noted_by self.old.turn) (kept_by self.old) }
         ensures same { IsSame self.old self.new }
     {
         match self.backs[side].first_group(self.config.pool(), self.batch) {
-            Some((home, count)) => self.reserve_fill(side, home, count),
+            Some((home, count)) => self.reserve_fill(side, home, count, asked),
             None => {
                 self.wait = Wait::PeekComp { side };
-                Ask::Peek(Ring::Comp(self.pairs[side]), self.batch)
+                *asked = Ask::Peek(Ring::Comp(self.pairs[side]), self.batch);
             }
         }
     }
 
-    fn go_to_side(&mut self, side: usize) -> Option<Ask>
-        ensures expected { expects self.new.wait ≡ expected_of (joined_ask result []) }
-        ensures goes { GoesOn self.old.config.now self.old.app self.new (joined_ask result []) (from_side self.old.config.now self.old.app side (noted_by self.old.turn) (kept_by self.old)) }
+    fn go_to_side(&mut self, side: usize, asked: &mut Option<Ask>)
+        ensures expected { expects self.new.wait ≡ expected_of (joined_ask asked.new []) }
+        ensures goes { GoesOn self.old.config.now self.old.app self.new (joined_ask asked.new []) (from_side self.old.config.now self.old.app side (noted_by self.old.turn) (kept_by self.old)) }
         ensures same { IsSame self.old self.new }
     {
         if side < SIDES {
-            Some(self.open_side(side))
+            self.open_side(side, asked.get_or_insert(UNASKED));
         } else {
-            self.end_turn()
+            self.end_turn(asked);
         }
     }
 
     /// Goes on behind a side that had frames.
-    fn go_on_full_side(&mut self, side: usize) -> Option<Ask>
+    fn go_on_full_side(&mut self, side: usize, asked: &mut Option<Ask>)
         requires { side < 2 }
-        ensures expected { expects self.new.wait ≡ expected_of (joined_ask result []) }
-        ensures goes { GoesOn self.old.config.now self.old.app self.new (joined_ask result []) (after_full_side self.old.config.now self.old.app side (noted_by self.old.turn) (kept_by self.old)) }
+        ensures expected { expects self.new.wait ≡ expected_of (joined_ask asked.new []) }
+        ensures goes { GoesOn self.old.config.now self.old.app self.new (joined_ask asked.new []) (after_full_side self.old.config.now self.old.app side (noted_by self.old.turn) (kept_by self.old)) }
         ensures same { IsSame self.old self.new }
     {
         self.turn.sides_empty = false;
-        self.go_to_side(side + 1)
+        self.go_to_side(side + 1, asked);
     }
 
     /// Keeps the frames that were completed on a side that had none.
-    fn take_completed(&mut self, side: usize, items: &mut Batch) -> Option<Ask>
+    fn take_completed(&mut self, side: usize, items: &mut Batch, asked: &mut Option<Ask>)
         requires side { side < 2 }
         requires empty { back_at (kept_by self.old) side ≡ [] }
-        ensures expected { expects self.new.wait ≡ expected_of (joined_ask result items.new) }
-        ensures goes { doing self.old.config.now self.old.app self.new (joined_ask result items.new) ≡ complete_side self.old.config.now self.old.app side (kept_by self.old) (after_full_side self.old.config.now self.old.app side (noted_by self.old.turn)) items.old }
+        ensures expected { expects self.new.wait ≡ expected_of (joined_ask asked.new items.new) }
+        ensures goes { doing self.old.config.now self.old.app self.new (joined_ask asked.new items.new) ≡ complete_side self.old.config.now self.old.app side (kept_by self.old) (after_full_side self.old.config.now self.old.app side (noted_by self.old.turn)) items.old }
         ensures same { IsSame self.old self.new }
-        ensures given_back { IsGivenBack result items.new }
+        ensures given_back { IsGivenBack asked.new items.new }
     {
         let count = items.len();
         self.wait = Wait::ReleaseComp { side };
         self.backs[side].keep(items);
-        Some(Ask::Release(Ring::Comp(self.pairs[side]), count))
+        *asked = Some(Ask::Release(Ring::Comp(self.pairs[side]), count));
     }
 
     /// Gives back the next frames that have one home, or goes on where the side has none.
-    fn give_back(&mut self, side: usize) -> Option<Ask>
+    fn give_back(&mut self, side: usize, asked: &mut Option<Ask>)
         requires { side < 2 }
-        ensures expected { expects self.new.wait ≡ expected_of (joined_ask result []) }
-        ensures goes { GoesOn self.old.config.now self.old.app self.new (joined_ask result []) (after_group self.old.config.now self.old.app side (noted_by self.old.turn) (kept_by self.old)) }
+        ensures expected { expects self.new.wait ≡ expected_of (joined_ask asked.new []) }
+        ensures goes { GoesOn self.old.config.now self.old.app self.new (joined_ask asked.new []) (after_group self.old.config.now self.old.app side (noted_by self.old.turn) (kept_by self.old)) }
         ensures same { IsSame self.old self.new }
     {
         match self.backs[side].first_group(self.config.pool(), self.batch) {
-            Some((home, count)) => Some(self.reserve_fill(side, home, count)),
-            None => self.go_on_full_side(side),
+            Some((home, count)) => self.reserve_fill(
+                side,
+                home,
+                count,
+                asked.get_or_insert(UNASKED),
+            ),
+            None => self.go_on_full_side(side, asked),
         }
     }
 
-    fn reserve_fill(&mut self, side: usize, home: u32, count: u32) -> Ask
+    fn reserve_fill(&mut self, side: usize, home: u32, count: u32, asked: &mut Ask)
         requires side { side < 2 }
         requires group { IsGroup (pool_of self.old.config.now) (batch_of self.old.config.now) (back_at (kept_by self.old) side) home count }
-        ensures expected { expects self.new.wait ≡ expected_by (joined_call result []) }
-        ensures goes { doing self.old.config.now self.old.app self.new (act.Call (joined_call result [])) ≡ give_back self.old.config.now side 0 (back_at (kept_by self.old) side) (kept_by self.old) (after_full_side self.old.config.now self.old.app side (noted_by self.old.turn)) }
+        ensures expected { expects self.new.wait ≡ expected_by (joined_call asked.new []) }
+        ensures goes { doing self.old.config.now self.old.app self.new (act.Call (joined_call asked.new [])) ≡ give_back self.old.config.now side 0 (back_at (kept_by self.old) side) (kept_by self.old) (after_full_side self.old.config.now self.old.app side (noted_by self.old.turn)) }
         ensures same { IsSame self.old self.new }
     {
         self.wait = Wait::ReserveFill { side, home, count };
-        Ask::Reserve(Ring::Fill(home), count)
+        *asked = Ask::Reserve(Ring::Fill(home), count);
     }
 
     /// Puts the side's first frames on the FILL ring of their home.
-    fn refill(&mut self, side: usize, home: u32, count: u32, items: &mut Batch) -> Option<Ask>
+    fn refill(
+        &mut self,
+        side: usize,
+        home: u32,
+        count: u32,
+        items: &mut Batch,
+        asked: &mut Option<Ask>,
+    )
         requires side { side < 2 }
         requires group { IsGroup (pool_of self.old.config.now) (batch_of self.old.config.now) (back_at (kept_by self.old) side) home count }
         requires empty { items.old ≡ [] }
-        ensures expected { expects self.new.wait ≡ expected_of (joined_ask result items.new) }
-        ensures goes { doing self.old.config.now self.old.app self.new (joined_ask result items.new) ≡ by_reply (give_back self.old.config.now side 0 (back_at (kept_by self.old) side) (kept_by self.old) (after_full_side self.old.config.now self.old.app side (noted_by self.old.turn))) reply.Granted }
+        ensures expected { expects self.new.wait ≡ expected_of (joined_ask asked.new items.new) }
+        ensures goes { doing self.old.config.now self.old.app self.new (joined_ask asked.new items.new) ≡ by_reply (give_back self.old.config.now side 0 (back_at (kept_by self.old) side) (kept_by self.old) (after_full_side self.old.config.now self.old.app side (noted_by self.old.turn))) reply.Granted }
         ensures same { IsSame self.old self.new }
-        ensures given_back { IsGivenBack result items.new }
+        ensures given_back { IsGivenBack asked.new items.new }
     {
         self.wait = Wait::SubmitFill { side, home };
         self.backs[side].give(self.config.geometry(), count, items);
-        Some(Ask::Submit(Ring::Fill(home)))
+        *asked = Some(Ask::Submit(Ring::Fill(home)));
     }
 
     /// Keeps the side's frames, for which the FILL ring of their home has no room.
-    fn find_fill_full(&mut self, side: usize) -> Option<Ask>
+    fn find_fill_full(&mut self, side: usize, asked: &mut Option<Ask>)
         requires side { side < 2 }
         requires some { back_at (kept_by self.old) side ≢ [] }
-        ensures expected { expects self.new.wait ≡ expected_of (joined_ask result []) }
-        ensures goes { (free : ℕ) → GoesOn self.old.config.now self.old.app self.new (joined_ask result []) (by_reply (give_back self.old.config.now side 0 (back_at (kept_by self.old) side) (kept_by self.old) (after_full_side self.old.config.now self.old.app side (noted_by self.old.turn))) (reply.Full free)) }
+        ensures expected { expects self.new.wait ≡ expected_of (joined_ask asked.new []) }
+        ensures goes { (free : ℕ) → GoesOn self.old.config.now self.old.app self.new (joined_ask asked.new []) (by_reply (give_back self.old.config.now side 0 (back_at (kept_by self.old) side) (kept_by self.old) (after_full_side self.old.config.now self.old.app side (noted_by self.old.turn))) (reply.Full free)) }
         ensures same { IsSame self.old self.new }
     {
-        self.go_on_full_side(side)
+        self.go_on_full_side(side, asked);
     }
 
     /// Ends a turn, by the facts as they are now.
-    pub(crate) fn end_by_facts(&mut self) -> Option<Ask>
-        ensures expected { expects self.new.wait ≡ expected_of (joined_ask result []) }
-        ensures goes { GoesOn self.old.config.now self.old.app self.new (joined_ask result []) (end_by self.old.config.now self.old.app (noted_by self.old.turn) (kept_by self.old)) }
+    pub(crate) fn end_by_facts(&mut self, asked: &mut Option<Ask>)
+        ensures expected { expects self.new.wait ≡ expected_of (joined_ask asked.new []) }
+        ensures goes { GoesOn self.old.config.now self.old.app self.new (joined_ask asked.new []) (end_by self.old.config.now self.old.app (noted_by self.old.turn) (kept_by self.old)) }
         ensures same { IsSame self.old self.new }
     {
         if self.tx_done {
-            self.end_or_look()
+            self.end_or_look(asked);
         } else if self.seen[0] && self.seen[1] {
-            Some(self.end_sending())
+            self.end_sending(asked.get_or_insert(UNASKED));
         } else {
-            Some(self.look_rx_done(0))
+            self.look_rx_done(0, asked.get_or_insert(UNASKED));
         }
     }
 
     /// Looks at the first side from this one on that has not told that it has no further packet.
-    fn look_rx_done(&mut self, side: usize) -> Ask
+    fn look_rx_done(&mut self, side: usize, asked: &mut Ask)
         requires { side ≤ 2 }
-        ensures expected { expects self.new.wait ≡ expected_by (joined_call result []) }
-        ensures goes { GoesOn self.old.config.now self.old.app self.new (act.Call (joined_call result [])) (look_rx_done self.old.config.now self.old.app (2 - side) side (kept_by self.old)) }
+        ensures expected { expects self.new.wait ≡ expected_by (joined_call asked.new []) }
+        ensures goes { GoesOn self.old.config.now self.old.app self.new (act.Call (joined_call asked.new [])) (look_rx_done self.old.config.now self.old.app (2 - side) side (kept_by self.old)) }
         ensures same { IsSame self.old self.new }
     {
         match first_unset(self.seen, side) {
             Some(side) => {
                 self.wait = Wait::LookRxDone { side };
-                Ask::Look(Mark::RxDone(self.pairs[side]))
+                *asked = Ask::Look(Mark::RxDone(self.pairs[side]));
             }
-            None => self.begin(),
+            None => self.begin(asked),
         }
     }
 
-    fn learn_rx_done(&mut self, side: usize, done: u64) -> Ask
+    fn learn_rx_done(&mut self, side: usize, done: u64, asked: &mut Ask)
         requires { side < 2 }
-        ensures expected { expects self.new.wait ≡ expected_by (joined_call result []) }
-        ensures goes { GoesOn self.old.config.now self.old.app self.new (act.Call (joined_call result [])) (look_rx_done self.old.config.now self.old.app (2 - (side + 1)) (side + 1) (with_seen (kept_by self.old) side done)) }
+        ensures expected { expects self.new.wait ≡ expected_by (joined_call asked.new []) }
+        ensures goes { GoesOn self.old.config.now self.old.app self.new (act.Call (joined_call asked.new [])) (look_rx_done self.old.config.now self.old.app (2 - (side + 1)) (side + 1) (with_seen (kept_by self.old) side done)) }
         ensures same { IsSame self.old self.new }
     {
         if done == 1 {
             self.seen[side] = true;
         }
-        self.look_rx_done(side + 1)
+        self.look_rx_done(side + 1, asked);
     }
 
     /// Tells that nothing more is sent, where both sides were seen as the turn began and each lane was empty in it; and where it
     /// has closed a socket, only if that was acknowledged as the turn began.
-    fn end_sending(&mut self) -> Ask
-        ensures expected { expects self.new.wait ≡ expected_by (joined_call result []) }
-        ensures goes { GoesOn self.old.config.now self.old.app self.new (act.Call (joined_call result [])) (tell_tx_done self.old.config.now self.old.app (noted_by self.old.turn) (kept_by self.old)) }
+    fn end_sending(&mut self, asked: &mut Ask)
+        ensures expected { expects self.new.wait ≡ expected_by (joined_call asked.new []) }
+        ensures goes { GoesOn self.old.config.now self.old.app self.new (act.Call (joined_call asked.new [])) (tell_tx_done self.old.config.now self.old.app (noted_by self.old.turn) (kept_by self.old)) }
         ensures same { IsSame self.old self.new }
     {
         let acked = !self.begun || self.turn.acked;
         if self.turn.seen && self.turn.lanes_empty && acked {
             self.wait = Wait::TellTxDone;
-            Ask::Swap(Mark::TxDone(self.app), 1)
+            *asked = Ask::Swap(Mark::TxDone(self.app), 1);
         } else {
-            self.begin()
+            self.begin(asked);
         }
     }
 
     /// Wakes both drivers, where the flags are used, once it told that it sends nothing more.
-    fn stop_sending(&mut self) -> Ask
-        ensures expected { expects self.new.wait ≡ expected_by (joined_call result []) }
-        ensures goes { GoesOn self.old.config.now self.old.app self.new (act.Call (joined_call result [])) (wake_both self.old.config.now self.old.app (told_tx_done (kept_by self.old))) }
+    fn stop_sending(&mut self, asked: &mut Ask)
+        ensures expected { expects self.new.wait ≡ expected_by (joined_call asked.new []) }
+        ensures goes { GoesOn self.old.config.now self.old.app self.new (act.Call (joined_call asked.new [])) (wake_both self.old.config.now self.old.app (told_tx_done (kept_by self.old))) }
         ensures same { IsSame self.old self.new }
     {
         self.tx_done = true;
         if self.config.wakeup() {
-            self.kick(self.pairs[0], Next::Second)
+            self.kick(self.pairs[0], Next::Second, asked);
         } else {
-            self.begin()
+            self.begin(asked);
         }
     }
 
     /// Ends where both drivers had ended as the turn began and nothing is left to give back, and else looks for them.
-    fn end_or_look(&mut self) -> Option<Ask>
-        ensures expected { expects self.new.wait ≡ expected_of (joined_ask result []) }
-        ensures goes { GoesOn self.old.config.now self.old.app self.new (joined_ask result []) (end_or_look self.old.config.now self.old.app (noted_by self.old.turn) (kept_by self.old)) }
+    fn end_or_look(&mut self, asked: &mut Option<Ask>)
+        ensures expected { expects self.new.wait ≡ expected_of (joined_ask asked.new []) }
+        ensures goes { GoesOn self.old.config.now self.old.app self.new (joined_ask asked.new []) (end_or_look self.old.config.now self.old.app (noted_by self.old.turn) (kept_by self.old)) }
         ensures same { IsSame self.old self.new }
     {
         let nothing_left = self.backs[0].is_empty() && self.backs[1].is_empty();
         if self.turn.gone && self.turn.sides_empty && nothing_left {
             self.wait = Wait::Ended;
-            return None;
+            *asked = None;
+            return;
         }
-        Some(self.look_gone(0))
+        self.look_gone(0, asked.get_or_insert(UNASKED));
     }
 
     /// Looks at the first side from this one on whose driver isn't known to have ended.
-    fn look_gone(&mut self, side: usize) -> Ask
+    fn look_gone(&mut self, side: usize, asked: &mut Ask)
         requires { side ≤ 2 }
-        ensures expected { expects self.new.wait ≡ expected_by (joined_call result []) }
-        ensures goes { GoesOn self.old.config.now self.old.app self.new (act.Call (joined_call result [])) (look_gone self.old.config.now self.old.app (2 - side) side (kept_by self.old)) }
+        ensures expected { expects self.new.wait ≡ expected_by (joined_call asked.new []) }
+        ensures goes { GoesOn self.old.config.now self.old.app self.new (act.Call (joined_call asked.new [])) (look_gone self.old.config.now self.old.app (2 - side) side (kept_by self.old)) }
         ensures same { IsSame self.old self.new }
     {
         match first_unset(self.gone, side) {
             Some(side) => {
                 self.wait = Wait::LookGone { side };
-                Ask::Look(Mark::Gone(self.pairs[side]))
+                *asked = Ask::Look(Mark::Gone(self.pairs[side]));
             }
-            None => self.begin(),
+            None => self.begin(asked),
         }
     }
 
-    fn learn_gone(&mut self, side: usize, gone: u64) -> Ask
+    fn learn_gone(&mut self, side: usize, gone: u64, asked: &mut Ask)
         requires { side < 2 }
-        ensures expected { expects self.new.wait ≡ expected_by (joined_call result []) }
-        ensures goes { GoesOn self.old.config.now self.old.app self.new (act.Call (joined_call result [])) (look_gone self.old.config.now self.old.app (2 - (side + 1)) (side + 1) (with_gone (kept_by self.old) side gone)) }
+        ensures expected { expects self.new.wait ≡ expected_by (joined_call asked.new []) }
+        ensures goes { GoesOn self.old.config.now self.old.app self.new (act.Call (joined_call asked.new [])) (look_gone self.old.config.now self.old.app (2 - (side + 1)) (side + 1) (with_gone (kept_by self.old) side gone)) }
         ensures same { IsSame self.old self.new }
     {
         if gone == 1 {
             self.gone[side] = true;
         }
-        self.look_gone(side + 1)
+        self.look_gone(side + 1, asked);
     }
 }
 

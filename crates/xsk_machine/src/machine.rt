@@ -85,6 +85,6 @@ impl Machine for App<'_> {
 
     #[inline(always)]
     fn step(&mut self, answer: Option<Answer>, items: &mut Batch, next: &mut Option<Ask>) {
-        *next = App::step(self, answer, items);
+        App::step(self, answer, items, next);
     }
 }

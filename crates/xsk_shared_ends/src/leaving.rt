@@ -47,7 +47,8 @@ impl<'a> Leaving<'a> {
         let (app, pass) = ends.leave();
         let mut app = app;
         let mut items = Batch::new();
-        let ask = app.step(None, &mut items);
+        let mut ask = None;
+        app.step(None, &mut items, &mut ask);
         Leaving {
             app,
             ask,
@@ -66,7 +67,7 @@ impl<'a> Leaving<'a> {
             return Turned::Ended;
         };
         let answer = self.pass.serve(shared, ask, &mut self.items);
-        self.ask = self.app.step(Some(answer), &mut self.items);
+        self.app.step(Some(answer), &mut self.items, &mut self.ask);
         came_of(ask, answer)
     }
 

@@ -11,11 +11,11 @@ returns-in-Some-clause-goes c =
     let m = c.args.self.now in
     let some : 0 < lanes_of m.config.now = omega (arith, m.classed) in
     let off : m.tx_done ≡ false = search rules in
-    begins_closing m.config.now m.app c.begin_closing.new.self (Calls (joined_call c.begin_closing.result [])) c.in-Some.socket (kept_by m) some off (sym m.shut_is ∙ c.in-Some.is) c.begin_closing.ensures.goes
+    begins_closing m.config.now m.app c.begin_closing.new.self (Calls (joined_call c.begin_closing.new.asked [])) c.in-Some.socket (kept_by m) some off (sym m.shut_is ∙ c.in-Some.is) c.begin_closing.ensures.goes
 
 pub returns-in-None-clause-goes : goal.returns-in-None-clause-goes
 returns-in-None-clause-goes c =
     let m = c.args.self.now in
     let some : 0 < lanes_of m.config.now = omega (arith, m.classed) in
     let off : m.tx_done ≡ false = search rules in
-    begins_lanes m.config.now m.app c.begin_lanes.new.self (Calls (joined_call c.begin_lanes.result [])) (kept_by m) some off (sym m.shut_is ∙ c.in-None.is) c.begin_lanes.ensures.goes
+    begins_lanes m.config.now m.app c.begin_lanes.new.self (Calls (joined_call c.begin_lanes.new.asked [])) (kept_by m) some off (sym m.shut_is ∙ c.in-None.is) c.begin_lanes.ensures.goes

@@ -14,7 +14,7 @@ returns-in-LowerCell-clause-goes c =
     let m = c.args.self.now in
     let k = m.config.now in
     let answer = joined_answer c.args.answer [] in
-    let act = Calls (joined_call c.lower_from.result []) in
+    let act = Calls (joined_call c.lower_from.new.asked []) in
     let came = number_came answer (subst (λ w. CanCome (expects w) answer) c.in-LowerCell.is c.requires.comes) in
     subst (λ r. GoesOn k m.app c.lower_from.new.self act (to_do k m.app m r)) (sym came.1)
     (subst (λ w. GoesOn k m.app c.lower_from.new.self act (left k m.app w (noted_by m.turn) (kept_by m) (Old came.0))) (sym c.in-LowerCell.is) c.lower_from.ensures.goes)

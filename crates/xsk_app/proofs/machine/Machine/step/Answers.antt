@@ -14,9 +14,9 @@ returns-in-SubmitFill-clause-goes c =
     let m = c.args.self.now in
     let k = m.config.now in
     let answer = joined_answer c.args.answer c.args.items.now in
-    let act = joined_ask c.wake.result c.args.items.now in
+    let act = joined_ask c.wake.new.asked c.args.items.now in
     let came = submitted_came answer (subst (λ w. CanCome (expects w) answer) c.in-SubmitFill.is c.requires.comes) in
     let none = lent_none c.args.answer c.args.items.now came c.requires.lent in
     subst (λ r. GoesOn k m.app c.wake.new.self act (to_do k m.app m r)) (sym came)
     (subst (λ w. GoesOn k m.app c.wake.new.self act (left k m.app w (noted_by m.turn) (kept_by m) Submitted)) (sym c.in-SubmitFill.is)
-    (subst (λ (items : List Item). GoesOn k m.app c.wake.new.self (joined_ask c.wake.result items) (left k m.app (SubmitFill c.in-SubmitFill.side c.in-SubmitFill.home) (noted_by m.turn) (kept_by m) Submitted)) (sym none) c.wake.ensures.goes))
+    (subst (λ (items : List Item). GoesOn k m.app c.wake.new.self (joined_ask c.wake.new.asked items) (left k m.app (SubmitFill c.in-SubmitFill.side c.in-SubmitFill.home) (noted_by m.turn) (kept_by m) Submitted)) (sym none) c.wake.ensures.goes))

@@ -16,8 +16,8 @@ serve-answer-requires-clause-may c =
 pub serve-answer-requires-clause-items : goal.serve-answer-requires-clause-items
 serve-answer-requires-clause-items c = let s = c.self.inside in has_asked s.app s.ask s.items s.pass c.self.invariant c.in-Some.ask c.in-Some.is
 
-pub step-self-inside-requires-clause-comes : goal.step-self-inside-requires-clause-comes
-step-self-inside-requires-clause-comes c =
+pub step-requires-clause-comes : goal.step-requires-clause-comes
+step-requires-clause-comes c =
     let s = c.self.inside in
     comes s.app s.ask s.items s.pass c.self.invariant c.in-Some.ask c.in-Some.is c.serve-answer.new.self (joined_reply c.serve-answer.result c.serve-answer.new.items) c.serve-answer.ensures.served
 
@@ -28,17 +28,17 @@ invariant_of-self c =
     let ask = c.in-Some.ask in
     let call = joined_call ask s.items in
     let reply = joined_reply c.serve-answer.result c.serve-answer.new.items in
-    let step = c.step-self-inside.ensures in
+    let step = c.step.ensures in
     goes_on s.app s.ask s.items s.pass is ask c.in-Some.is c.serve-answer.new.self reply c.serve-answer.ensures.served
-    c.step-self-inside.new.self c.step-self-inside.result c.step-self-inside.new.items step.same.0 step.same.1 step.expected step.given_back
+    c.step.new.self c.step.new.asked c.step.new.items step.same.0 step.same.1 step.expected step.given_back
     (λ stood fits. step.goes_on_from s.app.config s.app.app is.start is.past is.later call reply stood refl fits)
 
 pub returns-clause-same : goal.returns-clause-same
 returns-clause-same c =
     let s = c.self.inside in
-    let step = c.step-self-inside.ensures in
+    let step = c.step.ensures in
     stays s.app s.ask s.items s.pass c.self.invariant c.in-Some.ask c.in-Some.is c.serve-answer.new.self (joined_reply c.serve-answer.result c.serve-answer.new.items) c.serve-answer.ensures.served
-    c.step-self-inside.new.self _ c.self.view_is step.same.0 step.same.1
+    c.step.new.self _ c.self.view_is step.same.0 step.same.1
 
 pub returns-in_default-clause-whole : goal.returns-in_default-clause-whole
 returns-in_default-clause-whole c = λ ended.
