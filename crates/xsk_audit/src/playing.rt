@@ -26,23 +26,41 @@ pub(crate) fn play(
     ensures config { checked.new.config ≡ checked.old.config }
     ensures played { OnOk result (Plays checked.new (lines_of text.now)) }
 {
-    let pairs = checked.config().pairs().len() as u32;
     let mut told = Batch::new();
     let mut items = Batch::new();
+    play_lines(alloc, checked, shelf, text, &mut told, &mut items)
+}
+
+/// The same with two empty batches: one for what a line tells, and one for the items with their frames.
+fn play_lines(
+    alloc: Global,
+    checked: &mut Checked,
+    shelf: &mut Shelf,
+    text: &[u8],
+    told: &mut Batch,
+    items: &mut Batch,
+) -> Result<(), OutOfMemory>
+    requires opened { (frames : List Body) × IsPlaying checked.old shelf.old frames [] }
+    requires told { told.old ≡ [] }
+    requires items { items.old ≡ [] }
+    ensures config { checked.new.config ≡ checked.old.config }
+    ensures played { OnOk result (Plays checked.new (lines_of text.now)) }
+{
+    let pairs = checked.config().pairs().len() as u32;
     let mut rest = text;
     for _line in 0..text.len() {
         if rest.is_empty() {
             return Ok(());
         }
         let (line, later) = first_line(rest);
-        let Some(reading) = read_line(pairs, line, &mut told) else {
+        let Some(reading) = read_line(pairs, line, told) else {
             return Ok(());
         };
         let Reading { who, ask, .. } = reading;
-        if !make(alloc, checked, shelf, who, ask, &told, &mut items)? {
+        if !make(alloc, checked, shelf, who, ask, told, items)? {
             return Ok(());
         }
-        empty(&mut told);
+        empty(told);
         rest = later;
     }
     Ok(())

@@ -4,7 +4,7 @@ use Rattle.xsk_model.specs.Entry.{Entry}
 use Rattle.xsk_audit.specs.Lines.{lines_of}
 use Rattle.xsk_audit.specs.Telling.{AreTold}
 use Rattle.xsk_audit.specs.Playing.{IsPlaying}
-use Rattle.xsk_audit.proofs.playing.play.Given as goal
+use Rattle.xsk_audit.proofs.playing.play_lines.Given as goal
 
 abbrev pub invariant-loop-line : goal.invariant-loop-line
 invariant-loop-line l = record {

@@ -7,7 +7,7 @@ use Rattle.xsk_audit.specs.Telling.{AreTold, StopsAt}
 use Rattle.xsk_audit.proofs.Cuts.{no-lines}
 use Rattle.xsk_audit.proofs.Making.{line-says, was-made, wasnt-made}
 use Rattle.xsk_audit.proofs.Misses.{none-short, stuck-unread, stuck-illegal, told-push, tells-made}
-use Rattle.xsk_audit.proofs.playing.play.Goals as goal
+use Rattle.xsk_audit.proofs.playing.play_lines.Goals as goal
 
 pub returns-then-is_empty-clause-played : goal.returns-then-is_empty-clause-played
 returns-then-is_empty-clause-played c =
