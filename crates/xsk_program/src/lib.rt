@@ -53,11 +53,19 @@ pub fn answer<R: Threads + Wait + Sync, B: Bay>(
 fn words_of<R: Env + AllocGlobal>(rt: &R) -> Result<Vec<String>, Status> {
     let words = match env::args(rt) {
         Ok(words) => words,
-        Err(error) if error.kind() == ErrorKind::OutOfMemory => return Err(Status::OutOfMemory),
-        Err(_) => return Err(Status::Usage),
+        Err(error) => return Err(status_of(error.kind())),
     };
     words
         .skip(1)
         .collect(rt.alloc())
         .map_err(|_| Status::OutOfMemory)
+}
+
+/// Why there are no words.
+fn status_of(kind: ErrorKind) -> Status {
+    if kind == ErrorKind::OutOfMemory {
+        Status::OutOfMemory
+    } else {
+        Status::Usage
+    }
 }
