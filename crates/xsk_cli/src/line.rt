@@ -2,7 +2,7 @@
 ghost use Rattle.std.specs.Prelude.{◌≡◌, ◌+◌, ◌≤◌, ◌++◌, length};
 ghost use Rattle.std.specs.Fmt.{decimal};
 ghost use Rattle.arrayvec.specs.ArrayString.{array_string_len};
-ghost use Rattle.xsk_cli.specs.Line.{cause_text, excess_text, file_cause_text, line_of, status_text, stream_text, unlawful_text};
+ghost use Rattle.xsk_cli.specs.Line.{cause_text, excess_text, file_cause_text, line_of, numbered, status_text, stream_text, unlawful_text};
 
 use crate::{Excess, Status};
 use arrayvec::ArrayString;
@@ -70,14 +70,23 @@ fn push_cause(line: &mut ArrayString<96>, cause: BadCapture)
     ensures text { line.new.bytes ≡ line.old.bytes ++ cause_text cause }
     ensures room { array_string_len line.new ≤ array_string_len line.old + 40 }
 {
+    let (name, number) = cause_parts(cause);
+    push_numbered(line, name, number);
+}
+
+/// The words of a cause, and the number behind them where there is one.
+fn cause_parts(cause: BadCapture) -> (&'static str, Option<u64>)
+    ensures text { cause_text cause ≡ numbered result.0.now result.1 }
+    ensures name { length result.0.now ≤ 20 }
+{
     match cause {
-        BadCapture::ShortHeader => line.push_str("short header"),
-        BadCapture::BadMagic => line.push_str("bad magic"),
-        BadCapture::BadVersion => line.push_str("bad version"),
-        BadCapture::BadLink => line.push_str("bad link"),
-        BadCapture::Truncated { at } => push_named(line, "truncated ", at),
-        BadCapture::RecordTooLong { at } => push_named(line, "record too long ", at),
-        BadCapture::OutOfMemory => line.push_str("out of memory"),
+        BadCapture::ShortHeader => ("short header", None),
+        BadCapture::BadMagic => ("bad magic", None),
+        BadCapture::BadVersion => ("bad version", None),
+        BadCapture::BadLink => ("bad link", None),
+        BadCapture::Truncated { at } => ("truncated ", Some(at)),
+        BadCapture::RecordTooLong { at } => ("record too long ", Some(at)),
+        BadCapture::OutOfMemory => ("out of memory", None),
     }
 }
 
@@ -86,19 +95,41 @@ fn push_file_cause(line: &mut ArrayString<96>, cause: BadPcapng)
     ensures text { line.new.bytes ≡ line.old.bytes ++ file_cause_text cause }
     ensures room { array_string_len line.new ≤ array_string_len line.old + 40 }
 {
+    let (name, number) = file_cause_parts(cause);
+    push_numbered(line, name, number);
+}
+
+/// The words of a cause, and the number behind them where there is one.
+fn file_cause_parts(cause: BadPcapng) -> (&'static str, Option<u64>)
+    ensures text { file_cause_text cause ≡ numbered result.0.now result.1 }
+    ensures name { length result.0.now ≤ 20 }
+{
     match cause {
-        BadPcapng::ShortHeader => line.push_str("short header"),
-        BadPcapng::BadMagic => line.push_str("bad magic"),
-        BadPcapng::BadVersion => line.push_str("bad version"),
-        BadPcapng::Truncated { at } => push_named(line, "truncated ", at),
-        BadPcapng::BadBlock { at } => push_named(line, "bad block ", at),
-        BadPcapng::SecondSection { at } => push_named(line, "second section ", at),
-        BadPcapng::BadLink { at } => push_named(line, "bad link ", at),
-        BadPcapng::TooManyInterfaces { at } => push_named(line, "too many interfaces ", at),
-        BadPcapng::OtherPacket { at } => push_named(line, "other packet ", at),
-        BadPcapng::NoInterface { at } => push_named(line, "no interface ", at),
-        BadPcapng::RecordTooLong { at } => push_named(line, "record too long ", at),
-        BadPcapng::OutOfMemory => line.push_str("out of memory"),
+        BadPcapng::ShortHeader => ("short header", None),
+        BadPcapng::BadMagic => ("bad magic", None),
+        BadPcapng::BadVersion => ("bad version", None),
+        BadPcapng::Truncated { at } => ("truncated ", Some(at)),
+        BadPcapng::BadBlock { at } => ("bad block ", Some(at)),
+        BadPcapng::SecondSection { at } => ("second section ", Some(at)),
+        BadPcapng::BadLink { at } => ("bad link ", Some(at)),
+        BadPcapng::TooManyInterfaces { at } => ("too many interfaces ", Some(at)),
+        BadPcapng::OtherPacket { at } => ("other packet ", Some(at)),
+        BadPcapng::NoInterface { at } => ("no interface ", Some(at)),
+        BadPcapng::RecordTooLong { at } => ("record too long ", Some(at)),
+        BadPcapng::OutOfMemory => ("out of memory", None),
+    }
+}
+
+/// Words, and the number behind them where there is one.
+fn push_numbered(line: &mut ArrayString<96>, name: &str, number: Option<u64>)
+    requires room { array_string_len line.old ≤ 50 }
+    requires name { length name.now ≤ 20 }
+    ensures text { line.new.bytes ≡ line.old.bytes ++ numbered name.now number }
+    ensures room { array_string_len line.new ≤ array_string_len line.old + (length name.now + 20) }
+{
+    match number {
+        Some(number) => push_named(line, name, number),
+        None => line.push_str(name),
     }
 }
 
@@ -131,22 +162,31 @@ fn push_unlawful(line: &mut ArrayString<96>, unlawful: Unlawful)
     ensures text { line.new.bytes ≡ line.old.bytes ++ unlawful_text unlawful }
     ensures room { array_string_len line.new ≤ array_string_len line.old + 40 }
 {
+    let (name, value) = unlawful_parts(unlawful);
+    push_named(line, name, u64::from(value));
+}
+
+/// What a refusal names, and its value.
+fn unlawful_parts(unlawful: Unlawful) -> (&'static str, u32)
+    ensures text { unlawful_text unlawful ≡ result.0.now ++ decimal result.1 }
+    ensures name { length result.0.now ≤ 20 }
+{
     match unlawful {
-        Unlawful::Ports(value) => push_named(line, "ports ", u64::from(value)),
-        Unlawful::Queues(value) => push_named(line, "queues ", u64::from(value)),
-        Unlawful::Sockets(value) => push_named(line, "sockets ", u64::from(value)),
-        Unlawful::Files(value) => push_named(line, "files ", u64::from(value)),
-        Unlawful::Chunk(value) => push_named(line, "chunk ", u64::from(value)),
-        Unlawful::Headroom(value) => push_named(line, "headroom ", u64::from(value)),
-        Unlawful::Frames(value) => push_named(line, "frames ", u64::from(value)),
-        Unlawful::Rx(value) => push_named(line, "rx ", u64::from(value)),
-        Unlawful::Tx(value) => push_named(line, "tx ", u64::from(value)),
-        Unlawful::Fill(value) => push_named(line, "fill ", u64::from(value)),
-        Unlawful::Comp(value) => push_named(line, "comp ", u64::from(value)),
-        Unlawful::Pool(value) => push_named(line, "pool ", u64::from(value)),
-        Unlawful::Empty(value) => push_named(line, "empty ", u64::from(value)),
-        Unlawful::Close(value) => push_named(line, "close ", u64::from(value)),
-        Unlawful::Hands(value) => push_named(line, "hands ", u64::from(value)),
+        Unlawful::Ports(value) => ("ports ", value),
+        Unlawful::Queues(value) => ("queues ", value),
+        Unlawful::Sockets(value) => ("sockets ", value),
+        Unlawful::Files(value) => ("files ", value),
+        Unlawful::Chunk(value) => ("chunk ", value),
+        Unlawful::Headroom(value) => ("headroom ", value),
+        Unlawful::Frames(value) => ("frames ", value),
+        Unlawful::Rx(value) => ("rx ", value),
+        Unlawful::Tx(value) => ("tx ", value),
+        Unlawful::Fill(value) => ("fill ", value),
+        Unlawful::Comp(value) => ("comp ", value),
+        Unlawful::Pool(value) => ("pool ", value),
+        Unlawful::Empty(value) => ("empty ", value),
+        Unlawful::Close(value) => ("close ", value),
+        Unlawful::Hands(value) => ("hands ", value),
     }
 }
 
