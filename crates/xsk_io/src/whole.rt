@@ -13,6 +13,10 @@ use std::fmt;
 /// How many bytes one read asks for.
 const PIECE: usize = 65_536;
 
+/// How many bytes room is made for at first. What isn't used takes addresses and no pages, and a text that needn't grow is in as few
+/// pages as the system gives.
+const ROOM: usize = 33_554_432;
+
 /// Why an input wasn't read whole.
 #[derive(Clone, Copy, Debug, PartialEq, Eq)]
 pub enum ReadError {
@@ -81,7 +85,7 @@ pub fn read_whole<B: Bay>(
     ensures counts { CountsOnly Kind.Read stream (B.moment bay.old).faults (B.moment bay.new).faults }
 {
     let mut piece = new_piece(alloc, PIECE)?;
-    let mut bytes = Vec::new(alloc);
+    let mut bytes = Vec::with_capacity(alloc, ROOM)?;
     while bytes.len() <= limit {
         let count = bay.read(stream, piece.as_mut_slice())?;
         if count == 0 {
