@@ -122,8 +122,14 @@ impl<M: Machine + Drop, P: Context> Turns for Worker<M, P> {
         self.calls = self.calls.saturating_add(1);
         self.machine
             .step(Some(answer), &mut self.items, &mut self.ask);
-        wake(&self.place, &self.pass, ask);
-        pace_of(self.pass.caller(), ask, answer, self.ask)
+        end_turn(
+            &self.place,
+            &self.pass,
+            self.pass.caller(),
+            ask,
+            answer,
+            self.ask,
+        )
     }
 }
 
@@ -151,6 +157,29 @@ impl<'a, P: Context> Leaves for Worker<AnyWorker<'a>, P> {
         let (machine, pass, calls) = self.into_parts();
         kept.keep(machine, classes);
         (pass, calls)
+    }
+}
+
+/// Wakes the driver that a caller's last call has kicked, and tells what came of the call, where this is its next. Only a Swap
+/// kicks, and it always moves something: so no other call is asked whether it kicks.
+fn end_turn<P: Context>(
+    place: &P,
+    pass: &Pass,
+    who: u32,
+    ask: Ask,
+    answer: Answer,
+    next: Option<Ask>,
+) -> Pace
+    requires { IsLastOf pass.now ask }
+    ensures goes_on { (result ≡ Ended) → ⊥ }
+    ensures parked { result ≡ Parked ↔ (ask ≡ Look (Kick who)) × (answer ≡ Old 0) × (next ≡ Some (Look (Kick who))) }
+{
+    match ask {
+        Ask::Swap(..) => {
+            wake(place, pass, ask);
+            Pace::Moved
+        }
+        _ => pace_of(who, ask, answer, next),
     }
 }
 

@@ -54,8 +54,8 @@ returns-clause-parked g c =
     let answer = c.serve-answer.result in
     let next = c.step.new.next in
     let served = c.serve-answer.ensures.told.served in
-    let told : (c.pace_of.result ≡ Parked) ↔ ((ask ≡ Look (Kick q.who)) × (answer ≡ Old 0) × (next ≡ Some (Look (Kick q.who)))) =
-    subst (λ (who : ℕ). (c.pace_of.result ≡ Parked) ↔ ((ask ≡ Look (Kick who)) × (answer ≡ Old 0) × (next ≡ Some (Look (Kick who))))) c.caller.ensures.caller c.pace_of.ensures.parked in (
+    let told : (c.end_turn.result ≡ Parked) ↔ ((ask ≡ Look (Kick q.who)) × (answer ≡ Old 0) × (next ≡ Some (Look (Kick q.who)))) =
+    subst (λ (who : ℕ). (c.end_turn.result ≡ Parked) ↔ ((ask ≡ Look (Kick who)) × (answer ≡ Old 0) × (next ≡ Some (Look (Kick who))))) c.caller.ensures.caller c.end_turn.ensures.parked in (
       λ parked.
           let is = told.0 parked in
           record { looked = sleeps p q ask answer c.self.inside.items c.serve-answer.new.items served is.0 is.1; looks = is.2 },
