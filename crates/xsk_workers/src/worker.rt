@@ -109,6 +109,7 @@ impl<M: Machine + Drop, P: Context> Turns for Worker<M, P> {
     }
 
     /// Makes the next call, if there is one, and wakes the driver that it kicks.
+    #[inline(always)]
     fn turn(&mut self, shared: &Shared) -> Pace
         requires { IsSeatOn shared.now (seat_of self.old) }
         ensures seat { seat_of self.new ≡ seat_of self.old }
