@@ -2,6 +2,7 @@ pub mod Crew
 pub mod Shown
 pub mod Parking
 pub mod Hands
+pub mod Sharing
 pub mod Members
 pub mod Keeping
 pub mod Forwarded

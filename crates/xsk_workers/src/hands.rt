@@ -2,6 +2,7 @@
 ghost use Rattle.std.specs.Prelude.{◌≡◌, ◌<◌};
 ghost use Rattle.xsk_lock.specs.Rule.{mine};
 ghost use Rattle.xsk_lock.specs.Held.{Belongs, IsOff, IsOn};
+ghost use Rattle.xsk_workers.specs.Sharing.{IsFree, Stays};
 
 use crate::works::Works;
 use crossbeam_utils::Backoff;
@@ -228,13 +229,10 @@ pub(crate) fn run<T: Works, R: Wait, G: Gate>(
     share: Share,
     hand: Hand<T>,
 ) -> Hand<T>
-    requires belongs { Belongs lock.now hand }
-    requires off { IsOff hand }
+    requires free { IsFree lock.now hand }
     requires on { T.is_on shared.now lock.now.name }
     requires lanes { share.lanes ≡ T.lanes_in lock.now.name }
-    ensures belongs { Belongs lock.now result }
-    ensures off { IsOff result }
-    ensures mine { mine result.view ≡ mine hand.view }
+    ensures { Stays lock.now hand result }
 {
     let mut hand = hand;
     let number = share.base.saturating_add(share.hand);

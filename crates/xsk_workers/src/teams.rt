@@ -1,8 +1,8 @@
 //! The ends of an application go into a lock, and come out of it once all hands have ended.
-ghost use Rattle.std.specs.Prelude.{◌≡◌};
+ghost use Rattle.std.specs.Prelude.{◌≡◌, ◌<◌, ◌++◌, ◌∷◌, [], length};
 
 use crate::hands::Share;
-use crate::pairs::{run_four, run_two};
+use crate::pairs::{Room, run_four, run_two};
 use crate::plan::HandsPlan;
 use crate::works::Works;
 use crossbeam_utils::sync::Unparker;
@@ -53,16 +53,18 @@ fn share_by_two<T: Works + Send, R: Threads + Wait + Sync, G: Gate + Sync>(
         Err(back) => return back.value,
     };
     let mut row = row;
-    let Some(second) = row.pop() else {
-        unreachable!()
-    };
-    let Some(first) = row.pop() else {
-        unreachable!()
-    };
+    let second = take_last(&mut row);
+    let first = take_last(&mut row);
     let refused = AtomicU64::new(0);
-    let (first, second) = run_two(
-        rt, shared, gate, &refused, &lock, wakers, share, first, second,
-    );
+    let room = Room {
+        rt,
+        shared,
+        gate,
+        refused: &refused,
+        lock: &lock,
+        wakers,
+    };
+    let (first, second) = run_two(&room, share, (first, second));
     let mut first = first;
     lock.join(&mut first, second);
     lock.close(first)
@@ -87,25 +89,39 @@ fn share_by_four<T: Works + Send, R: Threads + Wait + Sync, G: Gate + Sync>(
         Err(back) => return back.value,
     };
     let mut row = row;
-    let Some(fourth) = row.pop() else {
-        unreachable!()
-    };
-    let Some(third) = row.pop() else {
-        unreachable!()
-    };
-    let Some(second) = row.pop() else {
-        unreachable!()
-    };
-    let Some(first) = row.pop() else {
-        unreachable!()
-    };
+    let fourth = take_last(&mut row);
+    let third = take_last(&mut row);
+    let second = take_last(&mut row);
+    let first = take_last(&mut row);
     let refused = AtomicU64::new(0);
+    let room = Room {
+        rt,
+        shared,
+        gate,
+        refused: &refused,
+        lock: &lock,
+        wakers,
+    };
     let ((first, third), (second, fourth)) = run_four(
-        rt, shared, gate, &refused, &lock, wakers, share, first, third, second, fourth,
+        &room,
+        share,
+        (first, third),
+        (second, fourth),
     );
     let mut first = first;
     lock.join(&mut first, second);
     lock.join(&mut first, third);
     lock.join(&mut first, fourth);
     lock.close(first)
+}
+
+/// Takes the last of a row that isn't empty.
+fn take_last<H>(row: &mut Vec<H>) -> H
+    requires { 0 < length row.old.items }
+    ensures { row.old.items ≡ row.new.items ++ result ∷ [] }
+{
+    match row.pop() {
+        Some(last) => last,
+        None => unreachable!(),
+    }
 }
