@@ -59,14 +59,21 @@ pub(crate) fn program_of(lines: &[Line<'_>]) -> Result<Program, Trouble> {
 pub(crate) fn manner_of(lines: &[Line<'_>]) -> Result<Manner, Trouble> {
     let mut manner = Manner::plain();
     for line in lines {
-        if let Some(words) = line.behind("mangle") {
-            manner.mangle = Some(one_number(words)?);
-        }
-        if let Some(words) = line.behind("after") {
-            manner.after = one_number(words)?;
-        }
+        set_manner(&mut manner, line)?;
     }
     Ok(manner)
+}
+
+fn set_manner(manner: &mut Manner, line: &Line<'_>) -> Result<(), Trouble> {
+    if let Some(words) = line.behind("mangle") {
+        let mangle = one_number(words)?;
+        manner.mangle = Some(mangle);
+        return Ok(());
+    }
+    if let Some(words) = line.behind("after") {
+        manner.after = one_number(words)?;
+    }
+    Ok(())
 }
 
 fn set_program(program: &mut Program, words: &[&str]) -> Result<(), Trouble> {

@@ -96,10 +96,11 @@ fn edit(bytes: &mut [u8], edits: &[&str]) -> Result<(), Trouble> {
 fn set_byte(bytes: &mut [u8], word: &str) -> Result<(), Trouble> {
     let (at, value) = halves(word, ':')?;
     let value = byte(value)?;
-    let Some(place) = bytes.get_mut(number(at)? as usize) else {
+    let at = number(at)? as usize;
+    if at >= bytes.len() {
         return Err(Trouble::BadLine);
-    };
-    *place = value;
+    }
+    bytes[at] = value;
     Ok(())
 }
 

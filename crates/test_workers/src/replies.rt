@@ -66,11 +66,10 @@ fn item_of(word: &str, shelf: &mut Shelf) -> Result<Item, Trouble> {
 fn desc_of(word: &str) -> Result<XdpDesc, Trouble> {
     let (addr, rest) = halves(word, ':')?;
     let (len, options) = halves(rest, ':')?;
-    Ok(XdpDesc {
-        addr: long_number(addr)?,
-        len: number(len)?,
-        options: number(options)?,
-    })
+    let addr = long_number(addr)?;
+    let len = number(len)?;
+    let options = number(options)?;
+    Ok(XdpDesc { addr, len, options })
 }
 
 /// The frame that an address lies in, and none outside the UMEM.

@@ -77,8 +77,8 @@ fn tell_figures(run: &Run, text: &mut String) -> Result<(), Trouble> {
 fn tell_driver(pair: u32, figures: &DriverFigures, text: &mut String) -> Result<(), Trouble> {
     tell_number("d", u64::from(pair), text)?;
     tell_number(" in ", figures.packets_in, text)?;
-    for (name, count) in KINDS.iter().zip(&figures.kinds) {
-        tell_number(name, *count, text)?;
+    for kind in 0..KINDS.len() {
+        tell_number(KINDS[kind], figures.kinds[kind], text)?;
     }
     tell_last(" sent ", figures.sent, text)
 }

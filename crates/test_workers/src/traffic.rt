@@ -6,13 +6,13 @@ ghost use Rattle.xsk_model.specs.Config.{IsLawful};
 
 use crate::texts::tell_items;
 use crate::trouble::Trouble;
-use crate::words::{Line, number, one_number, three_numbers};
+use crate::words::{Line, number, one_number, three_numbers, two_numbers};
 use fixtures::registered;
 use std::alloc::Global;
 use xsk_model::{Call, Config, Reply, Ring};
 use xsk_plain::{Checked, payload_room};
 use xsk_socket::{RingKind, Setup};
-use xsk_umem::Geometry;
+use xsk_umem::{Batch, Geometry};
 
 /// The bytes of a chunk.
 const CHUNK: u32 = 2048;
@@ -40,11 +40,12 @@ fn peek_all(checked: &mut Checked, lines: &[Line<'_>], text: &mut String) -> Res
 }
 
 fn peek(checked: &mut Checked, words: &[&str], text: &mut String) -> Result<(), Trouble> {
-    let [who, ring, place, count] = words else {
+    let [who, ring, rest @ ..] = words else {
         return Err(Trouble::BadLine);
     };
-    let ring = ring_of(ring, number(place)?)?;
-    make_peek(checked, number(who)?, ring, number(count)?, text)
+    let (place, count) = two_numbers(rest)?;
+    let ring = ring_of(ring, place)?;
+    make_peek(checked, number(who)?, ring, count, text)
 }
 
 /// The object over the sockets, and all frames of a UMEM.
@@ -110,10 +111,13 @@ fn add_socket(setup: &mut Setup) -> Result<(), Trouble>
 fn add_ring(setup: &mut Setup, words: &[&str]) -> Result<(), Trouble>
     ensures { setup.new.geometry ≡ setup.old.geometry }
 {
-    let [socket, kind, size] = words else {
+    let [socket, kind, rest @ ..] = words else {
         return Err(Trouble::BadLine);
     };
-    match setup.ring(number(socket)?, kind_of(kind)?, number(size)?) {
+    let socket = number(socket)?;
+    let kind = kind_of(kind)?;
+    let size = one_number(rest)?;
+    match setup.ring(socket, kind, size) {
         Ok(()) => Ok(()),
         Err(_) => Err(Trouble::BadSetup),
     }
@@ -136,13 +140,17 @@ fn bind(setup: &mut Setup, words: &[&str]) -> Result<(), Trouble>
         return Err(Trouble::BadLine);
     };
     let socket = number(socket)?;
-    match rest {
-        [port, queue, flags, other] => {
-            let (port, queue, flags) = (number(port)?, number(queue)?, number(flags)?);
-            bind_at(setup, socket, (port, queue, flags), Some(number(other)?))
-        }
-        _ => bind_at(setup, socket, three_numbers(rest)?, None),
+    let at = three_numbers(rest.get(..3).unwrap_or(rest))?;
+    let shared = shared_in(rest.get(3..).unwrap_or(&[]))?;
+    bind_at(setup, socket, at, shared)
+}
+
+/// The socket whose UMEM is shared, if one is named.
+fn shared_in(words: &[&str]) -> Result<Option<u32>, Trouble> {
+    if words.is_empty() {
+        return Ok(None);
     }
+    Ok(Some(one_number(words)?))
 }
 
 fn bind_at(
@@ -184,20 +192,25 @@ fn make_peek(
     if checked.allows(who, &call) {
         tell_reply(checked.perform(who, call), text)
     } else {
-        text.push_str("not legal\n")?;
-        Ok(())
+        tell_words("not legal\n", text)
     }
 }
 
 fn tell_reply(reply: Reply, text: &mut String) -> Result<(), Trouble> {
     match &reply {
-        Reply::Items(items) => {
-            text.push_str("items")?;
-            tell_items(items, text)?;
-            text.push('\n')?;
-        }
-        Reply::Empty => text.push_str("empty\n")?,
-        _ => return Err(Trouble::BadReply),
+        Reply::Items(items) => tell_taken(items, text),
+        Reply::Empty => tell_words("empty\n", text),
+        _ => Err(Trouble::BadReply),
     }
+}
+
+fn tell_taken(items: &Batch, text: &mut String) -> Result<(), Trouble> {
+    text.push_str("items")?;
+    tell_items(items, text)?;
+    tell_words("\n", text)
+}
+
+fn tell_words(words: &str, text: &mut String) -> Result<(), Trouble> {
+    text.push_str(words)?;
     Ok(())
 }

@@ -58,10 +58,12 @@ pub(crate) fn one_number(words: &[&str]) -> Result<u32, Trouble> {
 }
 
 pub(crate) fn two_numbers(words: &[&str]) -> Result<(u32, u32), Trouble> {
-    match words {
-        [one, two] => Ok((number(one)?, number(two)?)),
-        _ => Err(Trouble::BadLine),
-    }
+    let [one, rest @ ..] = words else {
+        return Err(Trouble::BadLine);
+    };
+    let one = number(one)?;
+    let two = one_number(rest)?;
+    Ok((one, two))
 }
 
 pub(crate) fn three_numbers(words: &[&str]) -> Result<(u32, u32, u32), Trouble> {

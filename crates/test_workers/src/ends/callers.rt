@@ -49,11 +49,18 @@ fn number(word: &str) -> Option<u32> {
 
 /// The one or two numbers behind a line's first word, which are 0 where they aren't there. None where they are others.
 fn numbers(words: &[&str]) -> Option<(u32, u32)> {
-    match words {
-        [] => Some((0, 0)),
-        [place] => Some((number(place)?, 0)),
-        [place, count] => Some((number(place)?, number(count)?)),
-        _ => None,
+    if words.len() > 2 {
+        return None;
+    }
+    let place = number_at(words, 0)?;
+    let count = number_at(words, 1)?;
+    Some((place, count))
+}
+
+fn number_at(words: &[&str], place: usize) -> Option<u32> {
+    match words.get(place) {
+        Some(word) => number(word),
+        None => Some(0),
     }
 }
 
@@ -154,11 +161,11 @@ fn take_ends<'a>(alloc: Global, shared: &'a Shared, passes: &mut Passes) -> Opti
     requires left { AreLeft shared.now 2 passes.old }
     ensures { IfSome result (λ ends. Belongs shared.now ends.pass) }
 {
-    let pass = take(shared, passes, 2)?;
     let config = shared.config();
-    if pass.caller() < config.pairs().len() as u32 {
+    if config.pairs().len() > 2 {
         return None;
     }
+    let pass = take(shared, passes, 2)?;
     match Ends::new(alloc, config, pass) {
         Ok(ends) => Some(ends),
         Err(_) => None,

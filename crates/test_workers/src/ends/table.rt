@@ -1,16 +1,16 @@
 //! The table: two ports with a queue and a socket each, small rings, and so few frames that rings can be full.
-ghost use Rattle.std.specs.Prelude.{◌≡◌, ◌+◌, ◌<◌, ◌≤◌, ◌/◌, ℕ, IfSome, None};
+ghost use Rattle.std.specs.Prelude.{◌≡◌, ◌+◌, ◌<◌, ◌≤◌, ℕ, IfSome, None};
 ghost use Rattle.xsk_model.specs.Opening.{AreFrames};
-ghost use Rattle.xsk_socket.specs.Layout.{fault_of, geometry_of};
 ghost use Rattle.xsk_table.specs.Held.{new_pass};
 ghost use Rattle.xsk_table.specs.Opening.{new_passes};
 ghost use Rattle.xsk_turns.specs.Owned.{IsSteady};
 ghost use Rattle.test_workers.specs.Taking.{AreLeft};
 
 use std::alloc::Global;
-use xsk_socket::{Layout, check_layout, regular};
+use xsk_model::Config;
+use xsk_socket::{Layout, check_layout};
 use xsk_table::{Pass, Passes, Shared};
-use xsk_umem::{Frames, Geometry, Umem};
+use xsk_umem::Frames;
 
 fn layout(wakeup: bool) -> Layout
     ensures { result.close ≡ None }
@@ -45,31 +45,20 @@ pub(crate) fn opened(alloc: Global, wakeup: bool) -> Option<(Shared, Passes)>
     if check_layout(&layout).is_err() {
         return None;
     }
-    let (geometry, frames) = register(&layout, alloc)?;
-    let Ok(config) = regular(alloc, geometry, &layout) else {
-        return None;
-    };
-    match Shared::open(alloc, config, frames, 0) {
-        Ok(made) => Some(made),
+    match fixtures::opened(alloc, &layout) {
+        Ok((config, frames)) => opened_over(alloc, config, frames),
         Err(_) => None,
     }
 }
 
-fn register(layout: &Layout, alloc: Global) -> Option<(Geometry, Frames)>
-    requires { fault_of layout.now ≡ None }
-    ensures geometry { IfSome result (λ made. made.0 ≡ geometry_of layout.now) }
-    ensures frames { IfSome result (λ made. AreFrames made.0 made.1.items) }
+/// A table over a configuration, and all frames of its UMEM.
+fn opened_over(alloc: Global, config: Config, frames: Frames) -> Option<(Shared, Passes)>
+    requires steady { IsSteady config }
+    requires frames { AreFrames config.geometry frames.items }
+    ensures passes { IfSome result (λ made. made.1 ≡ new_passes made.0) }
+    ensures config { IfSome result (λ made. made.0.setup.config ≡ config) }
 {
-    let len = u64::from(layout.frames) * u64::from(layout.chunk);
-    all_frames(alloc, len, layout.chunk, layout.headroom)
-}
-
-/// A UMEM's geometry, and all its frames.
-fn all_frames(alloc: Global, len: u64, chunk: u32, headroom: u32) -> Option<(Geometry, Frames)>
-    ensures geometry { IfSome result (λ made. made.0 ≡ record { frames = len / chunk; chunk = chunk; headroom = headroom }) }
-    ensures frames { IfSome result (λ made. AreFrames made.0 made.1.items) }
-{
-    match Umem::register(alloc, len, chunk, headroom) {
+    match Shared::open(alloc, config, frames, 0) {
         Ok(made) => Some(made),
         Err(_) => None,
     }

@@ -54,10 +54,18 @@ fn tell(call: &Call, start: usize, text: &mut String) -> Result<(), AllocError> 
     match call {
         Call::Reserve(ring, count) => tell_ring(gap, "reserve", *ring, *count, text),
         Call::Peek(ring, count) => tell_ring(gap, "peek", *ring, *count, text),
-        Call::Look(Mark::RxDone(pair)) => write!(text, "{gap}look rx_done.{pair}"),
-        Call::Swap(Mark::TxDone(app), value) => write!(text, "{gap}swap tx_done.{app} {value}"),
+        Call::Look(Mark::RxDone(pair)) => tell_look(gap, *pair, text),
+        Call::Swap(Mark::TxDone(app), value) => tell_swap(gap, *app, *value, text),
         _ => Ok(()),
     }
+}
+
+fn tell_look(gap: &str, pair: u32, text: &mut String) -> Result<(), AllocError> {
+    write!(text, "{gap}look rx_done.{pair}")
+}
+
+fn tell_swap(gap: &str, app: u32, value: u64, text: &mut String) -> Result<(), AllocError> {
+    write!(text, "{gap}swap tx_done.{app} {value}")
 }
 
 fn tell_ring(
