@@ -3,10 +3,22 @@ ghost use Rattle.xsk_io.specs.Bay.{NoneOpen};
 
 use std::alloc::Global;
 use std::fs;
-use std::test::Fail;
-use xsk_io::{Bay, BayFailed, FileBay, ReadError, Stream, read_whole, write_whole};
+use std::fs::Files;
+use std::io::Print;
+use xsk_io::{Bay, FileBay, ReadError, Stream, read_whole, write_whole};
 
-/// Copies a text of at most five bytes, over any bay.
+/// What is done over a bay of which no stream is open.
+#[derive(Clone, Copy)]
+enum Deed<'a> {
+    /// A text of at most five bytes is copied, from the one name to the other.
+    Copy(&'a str, &'a str),
+    /// An input is opened, and then read.
+    Read(&'a str),
+    /// A text is reported.
+    Report,
+}
+
+/// Copies a text.
 fn copy_over<B: Bay>(alloc: Global, bay: &mut B, from: &str, to: &str) -> Result<(), ReadError>
     requires none_open { NoneOpen (B.moment bay.old) }
 {
@@ -17,54 +29,86 @@ fn copy_over<B: Bay>(alloc: Global, bay: &mut B, from: &str, to: &str) -> Result
     Ok(())
 }
 
-/// Copies a file.
-fn copy(rt: &HostRuntime, from: &str, to: &str) -> Result<(), ReadError> {
-    copy_over(rt.alloc(), &mut FileBay::new(rt), from, to)
+/// Opens an input, and reads from it. It must open.
+fn read_over<B: Bay>(bay: &mut B, name: &str) -> Result<(), ReadError>
+    requires none_open { NoneOpen (B.moment bay.old) }
+{
+    if bay.open(Stream::Input(1), name).is_err() {
+        return Ok(());
+    }
+    bay.read(Stream::Input(1), &mut [0u8; 4])?;
+    Ok(())
+}
+
+fn do_over<B: Bay>(alloc: Global, bay: &mut B, deed: Deed<'_>) -> Result<(), ReadError>
+    requires none_open { NoneOpen (B.moment bay.old) }
+{
+    match deed {
+        Deed::Copy(from, to) => copy_over(alloc, bay, from, to),
+        Deed::Read(name) => read_over(bay, name),
+        Deed::Report => Ok(write_whole(bay, Stream::Report, b"reported\n")?),
+    }
+}
+
+/// Does it over files.
+fn done<R: Files + Print>(rt: &R, alloc: Global, deed: Deed<'_>) -> Result<(), ReadError> {
+    do_over(alloc, &mut FileBay::new(rt), deed)
+}
+
+/// Whether a copy succeeds.
+fn copies<R: Files + Print>(rt: &R, alloc: Global, from: &str, to: &str) -> bool {
+    done(rt, alloc, Deed::Copy(from, to)).is_ok()
 }
 
 /// Whether a copy fails with a fault.
-fn fails(rt: &HostRuntime, from: &str, to: &str) -> bool {
-    copy(rt, from, to) == Err(ReadError::Fault)
+fn fails<R: Files + Print>(rt: &R, alloc: Global, from: &str, to: &str) -> bool {
+    done(rt, alloc, Deed::Copy(from, to)) == Err(ReadError::Fault)
+}
+
+/// Whether a file can be made with this text.
+fn makes<R: Files>(rt: &R, name: &str, text: &[u8]) -> bool {
+    fs::write(rt, name, text).is_ok()
+}
+
+/// Whether a file has this text.
+fn holds<R: Files + AllocGlobal>(rt: &R, name: &str, text: &[u8]) -> bool {
+    match fs::read(rt, name) {
+        Ok(found) => found.as_slice() == text,
+        Err(_) => false,
+    }
 }
 
 #[test]
-fn files_are_read_and_written(rt: HostRuntime) -> Result<(), Fail> {
-    fs::write(&rt, "short.tmp", b"abcde".as_slice())?;
-    fs::write(&rt, "copy.tmp", b"an older and longer text".as_slice())?;
-    assert_eq!(rt; copy(&rt, "short.tmp", "copy.tmp"), Ok(()));
-    let text = fs::read(&rt, "copy.tmp")?;
-    assert_eq!(rt; text.as_slice(), b"abcde".as_slice());
-    Ok(())
+fn files_are_read_and_written(rt: HostRuntime) {
+    assert!(rt; makes(&rt, "short.tmp", b"abcde"));
+    assert!(rt; makes(&rt, "copy.tmp", b"an older and longer text"));
+    assert!(rt; copies(&rt, rt.alloc(), "short.tmp", "copy.tmp"));
+    assert!(rt; holds(&rt, "copy.tmp", b"abcde"));
 }
 
 #[test]
-fn a_longer_file_is_refused(rt: HostRuntime) -> Result<(), Fail> {
-    fs::write(&rt, "long.tmp", b"abcdef".as_slice())?;
-    assert_eq!(rt; copy(&rt, "long.tmp", "kept.tmp"), Err(ReadError::TooLong));
-    Ok(())
+fn a_longer_file_is_refused(rt: HostRuntime) {
+    assert!(rt; makes(&rt, "long.tmp", b"abcdef"));
+    let refused = done(&rt, rt.alloc(), Deed::Copy("long.tmp", "kept.tmp"));
+    assert!(rt; refused == Err(ReadError::TooLong));
 }
 
 #[test]
-fn what_is_no_file_is_a_fault(rt: HostRuntime) -> Result<(), Fail> {
-    fs::write(&rt, "given.tmp", b"abcde".as_slice())?;
-    assert!(rt; fails(&rt, "missing.tmp", "made.tmp"));
-    assert!(rt; fails(&rt, ".", "made.tmp"));
-    assert!(rt; fails(&rt, "given.tmp", "."));
-    assert!(rt; fails(&rt, "given.tmp", "/dev/full"));
-    assert_eq!(rt; copy(&rt, "given.tmp", "/dev/stdout"), Ok(()));
-    Ok(())
+fn what_is_no_file_is_a_fault(rt: HostRuntime) {
+    assert!(rt; makes(&rt, "given.tmp", b"abcde"));
+    assert!(rt; fails(&rt, rt.alloc(), "missing.tmp", "made.tmp"));
+    assert!(rt; fails(&rt, rt.alloc(), ".", "made.tmp"));
+    assert!(rt; fails(&rt, rt.alloc(), "given.tmp", "."));
+    assert!(rt; fails(&rt, rt.alloc(), "given.tmp", "/dev/full"));
+    assert!(rt; copies(&rt, rt.alloc(), "given.tmp", "/dev/stdout"));
 }
 
 #[test]
-fn a_folder_opens_and_fails_at_its_first_read(rt: HostRuntime) -> Result<(), Fail> {
-    let mut bay = FileBay::new(&rt);
-    bay.open(Stream::Input(1), ".")?;
-    assert_eq!(rt; bay.read(Stream::Input(1), &mut [0u8; 4]), Err(BayFailed));
-    Ok(())
+fn a_folder_opens_and_fails_at_its_first_read(rt: HostRuntime) {
+    assert!(rt; done(&rt, rt.alloc(), Deed::Read(".")) == Err(ReadError::Fault));
 }
 
 #[test]
-fn the_report_is_printed(rt: HostRuntime) -> Result<(), Fail> {
-    write_whole(&mut FileBay::new(&rt), Stream::Report, b"reported\n")?;
-    Ok(())
+fn the_report_is_printed(rt: HostRuntime) {
+    assert!(rt; done(&rt, rt.alloc(), Deed::Report).is_ok());
 }

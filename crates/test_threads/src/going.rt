@@ -13,7 +13,7 @@ pub(crate) const PATIENCE: u64 = 10_000_000_000;
 
 /// What a caller did: its Reserves and Peeks, how many of them found a ring full or empty, and its looks at the other side's
 /// count.
-#[derive(Clone, Copy, Debug, Default, PartialEq, Eq)]
+#[derive(Clone, Copy, Default, PartialEq, Eq)]
 pub(crate) struct Tally {
     pub(crate) asked: u32,
     pub(crate) waits: u32,
@@ -57,6 +57,25 @@ pub(crate) fn make(
     Some(reply)
 }
 
+fn is_granted(reply: Reply) -> bool {
+    matches!(reply, Reply::Granted)
+}
+
+fn is_set(reply: Reply) -> bool {
+    matches!(reply, Reply::Old(1))
+}
+
+/// The first item of a reply.
+fn first_of(reply: Reply) -> Option<Item> {
+    match reply {
+        Reply::Items(items) => {
+            let mut items = items;
+            items.pop_front()
+        }
+        _ => None,
+    }
+}
+
 /// Reserves a place, and waits until one is free.
 pub(crate) fn reserve(
     shared: &Shared,
@@ -69,7 +88,7 @@ pub(crate) fn reserve(
     ensures caller { pass.new.who ≡ pass.old.who }
 {
     'tries: for _ in 0..PATIENCE {
-        if let Reply::Granted = make(shared, pass, Call::Reserve(ring, 1), tally)? {
+        if is_granted(make(shared, pass, Call::Reserve(ring, 1), tally)?) {
             return Some(());
         }
         thread::yield_now();
@@ -89,9 +108,9 @@ pub(crate) fn peek(
     ensures caller { pass.new.who ≡ pass.old.who }
 {
     'tries: for _ in 0..PATIENCE {
-        if let Reply::Items(items) = make(shared, pass, Call::Peek(ring, 1), tally)? {
-            let mut items = items;
-            return items.pop_front();
+        let found = first_of(make(shared, pass, Call::Peek(ring, 1), tally)?);
+        if found.is_some() {
+            return found;
         }
         thread::yield_now();
     }
@@ -110,7 +129,7 @@ pub(crate) fn see(
     ensures caller { pass.new.who ≡ pass.old.who }
 {
     'tries: for _ in 0..PATIENCE {
-        if let Reply::Old(1) = make(shared, pass, Call::Look(mark), tally)? {
+        if is_set(make(shared, pass, Call::Look(mark), tally)?) {
             return Some(());
         }
         thread::yield_now();

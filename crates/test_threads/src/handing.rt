@@ -3,11 +3,12 @@ ghost use Rattle.std.specs.Prelude.{◌≡◌, IfSome};
 ghost use Rattle.xsk_rings.specs.Rounds.{Rests};
 ghost use Rattle.xsk_lock.specs.Held.{Belongs, IsOff, new_hands};
 
+use crate::crew::{Crew, open};
 use crate::going::{PATIENCE, Tally};
-use crate::moving::{Way, move_one, open, take_both};
+use crate::moving::{Way, move_one};
+use crate::tasks::{Task, do_two};
 use std::alloc::Global;
 use std::marker::Model;
-use std::test::Fail;
 use std::thread;
 use std::thread::Threads;
 use xsk_lock::{Hand, Lock, Named};
@@ -24,7 +25,7 @@ const ENTRIES: u32 = 4;
 #[derive(Drop)]
 struct Slip {
     note: Note,
-    way: Way,
+    by_driver: bool,
     moved: u32,
 }
 
@@ -50,6 +51,11 @@ impl Named for Slip {
 /// Where two threads hand each other slips.
 type Desk = Lock<Slip>;
 
+/// Whether who moves frames this way is the driver, and not the application.
+fn is_driver(way: Way) -> bool {
+    matches!(way, Way::There)
+}
+
 /// Puts a slip of this caller in the place of the one that lies there, if the other thread isn't at it.
 fn exchange(
     shared: &Shared,
@@ -70,7 +76,15 @@ fn exchange(
 {
     let slip = desk.try_lock(hand)?;
     let note = pass.note(shared);
-    desk.unlock(hand, Slip { note, way, moved });
+    let by_driver = is_driver(way);
+    desk.unlock(
+        hand,
+        Slip {
+            note,
+            by_driver,
+            moved,
+        },
+    );
     Some(slip)
 }
 
@@ -80,7 +94,7 @@ fn meet(shared: &Shared, pass: &mut CheckedPass, way: Way, slip: Slip) -> u32
     requires table { slip.note.table ≡ shared.now.table }
     ensures { Rests shared.now pass.new }
 {
-    if slip.way == way {
+    if slip.by_driver == is_driver(way) {
         return 0;
     }
     let Slip { note, moved, .. } = slip;
@@ -88,7 +102,30 @@ fn meet(shared: &Shared, pass: &mut CheckedPass, way: Way, slip: Slip) -> u32
     moved
 }
 
-/// Waits until the other has moved so many frames, and has met it, and tells how many they are.
+/// Hands the other a slip, meets what the slip of the other shows, if one lay there, and tells how many frames that had moved.
+fn exchange_and_meet(
+    shared: &Shared,
+    desk: &Desk,
+    hand: &mut Hand<Slip>,
+    pass: &mut CheckedPass,
+    way: Way,
+    moved: u32,
+) -> u32
+    requires rests { Rests shared.now pass.old }
+    requires belongs { Belongs desk.now hand.old }
+    requires off { IsOff hand.old }
+    requires table { desk.now.name ≡ shared.now.table }
+    ensures rests { Rests shared.now pass.new }
+    ensures belongs { Belongs desk.now hand.new }
+    ensures off { IsOff hand.new }
+{
+    match exchange(shared, desk, hand, pass, way, moved) {
+        Some(slip) => meet(shared, pass, way, slip),
+        None => 0,
+    }
+}
+
+/// Waits until the other has moved so many frames, at least one, and has met it, and tells how many they are.
 fn await_other(
     shared: &Shared,
     desk: &Desk,
@@ -107,26 +144,22 @@ fn await_other(
     ensures off { IsOff hand.new }
 {
     'tries: for _ in 0..PATIENCE {
-        if let Some(slip) = exchange(shared, desk, hand, pass, way, moved) {
-            let found = meet(shared, pass, way, slip);
-            if found >= least {
-                return Some(found);
-            }
+        let found = exchange_and_meet(shared, desk, hand, pass, way, moved);
+        if found >= least {
+            return Some(found);
         }
         thread::yield_now();
     }
     None
 }
 
-/// Moves so many frames, each once a meet has shown that it is there. So many are there at first.
+/// Moves all frames, each once a meet has shown that it is there. So many are there at first.
 fn move_shown(
-    alloc: Global,
     shared: &Shared,
     desk: &Desk,
     hand: &mut Hand<Slip>,
     pass: &mut CheckedPass,
     way: Way,
-    count: u32,
     tally: &mut Tally,
 ) -> Option<()>
     requires rests { Rests shared.now pass.old }
@@ -137,45 +170,123 @@ fn move_shown(
     ensures belongs { Belongs desk.now hand.new }
     ensures off { IsOff hand.new }
 {
-    let first = if way == Way::There { ENTRIES } else { 0 };
+    let first = if is_driver(way) { ENTRIES } else { 0 };
     let mut shown = 0u32;
-    'rounds: for round in 0..count {
+    'rounds: for round in 0..MOVES {
         let least = (round + 1).saturating_sub(first);
         if shown < least {
             shown = await_other(shared, desk, hand, pass, way, round, least)?;
         }
-        move_one(alloc, shared, pass, way, round, tally)?;
+        move_one(shared, pass, way, round, tally)?;
     }
     Some(())
 }
 
-/// What a thread counted that has moved so many, and has told the other of the last.
-fn moves_shown(
-    alloc: Global,
+/// Tells the other of the last frame.
+fn tell_last(
     shared: &Shared,
     desk: &Desk,
-    hand: Hand<Slip>,
-    pass: CheckedPass,
+    hand: &mut Hand<Slip>,
+    pass: &mut CheckedPass,
     way: Way,
-    count: u32,
-) -> Option<Tally>
-    requires rests { Rests shared.now pass }
-    requires belongs { Belongs desk.now hand }
-    requires off { IsOff hand }
+) -> Option<()>
+    requires rests { Rests shared.now pass.old }
+    requires belongs { Belongs desk.now hand.old }
+    requires off { IsOff hand.old }
     requires table { desk.now.name ≡ shared.now.table }
 {
-    let (mut hand, mut pass) = (hand, pass);
-    let mut tally = Tally::default();
-    move_shown(
-        alloc, shared, desk, &mut hand, &mut pass, way, count, &mut tally,
-    )?;
     'tries: for _ in 0..PATIENCE {
-        if exchange(shared, desk, &mut hand, &mut pass, way, count).is_some() {
-            return Some(tally);
+        let slip = exchange(shared, desk, hand, pass, way, MOVES);
+        if slip.is_some() {
+            return Some(());
         }
         thread::yield_now();
     }
     None
+}
+
+/// Moves all frames that are shown, and tells the other of the last.
+fn move_and_tell(
+    shared: &Shared,
+    desk: &Desk,
+    hand: &mut Hand<Slip>,
+    pass: &mut CheckedPass,
+    way: Way,
+    tally: &mut Tally,
+) -> Option<()>
+    requires rests { Rests shared.now pass.old }
+    requires belongs { Belongs desk.now hand.old }
+    requires off { IsOff hand.old }
+    requires table { desk.now.name ≡ shared.now.table }
+{
+    move_shown(shared, desk, hand, pass, way, tally)?;
+    tell_last(shared, desk, hand, pass, way)
+}
+
+/// A caller's moves with notes, and what it counted.
+#[derive(Drop)]
+struct Moves<'a> {
+    shared: &'a Shared,
+    desk: &'a Desk,
+    hand: Hand<Slip>,
+    pass: CheckedPass,
+    way: Way,
+    tally: Tally,
+    has_moved: bool,
+}
+
+impl Task for Moves<'_> {
+    ghost use Rattle.std.specs.Prelude.{◌≡◌};
+    ghost use Rattle.xsk_rings.specs.Rounds.{Rests};
+    ghost use Rattle.xsk_lock.specs.Held.{Belongs, IsOff};
+
+    ghost is_ready = { λ m. Rests m.shared.now m.pass × Belongs m.desk.now m.hand × IsOff m.hand × (m.desk.now.name ≡ m.shared.now.table) };
+
+    ghost is_done = { λ _ _. Unit {0} };
+
+    fn run(&mut self) {
+        let moved = move_and_tell(
+            self.shared,
+            self.desk,
+            &mut self.hand,
+            &mut self.pass,
+            self.way,
+            &mut self.tally,
+        );
+        self.has_moved = moved.is_some();
+    }
+}
+
+/// The moves of a caller that has made none.
+fn new_moves<'a>(
+    shared: &'a Shared,
+    desk: &'a Desk,
+    hand: Hand<Slip>,
+    pass: CheckedPass,
+    way: Way,
+) -> Moves<'a>
+    requires rests { Rests shared.now pass }
+    requires belongs { Belongs desk.now hand }
+    requires off { IsOff hand }
+    requires table { desk.now.name ≡ shared.now.table }
+    ensures rests { Rests result.shared.now result.pass }
+    ensures belongs { Belongs result.desk.now result.hand × IsOff result.hand }
+    ensures table { result.desk.now.name ≡ result.shared.now.table }
+{
+    Moves {
+        shared,
+        desk,
+        hand,
+        pass,
+        way,
+        tally: Tally::default(),
+        has_moved: false,
+    }
+}
+
+/// Whether a caller has moved all, and each of its calls went on at once.
+fn never_waited(moves: &Moves<'_>) -> bool {
+    moves.has_moved && moves.tally.asked == 2 * MOVES && moves.tally.waits == 0
 }
 
 /// Both hands of a desk.
@@ -191,61 +302,83 @@ fn both_hands(desk: &Desk, hands: Vec<Hand<Slip>>) -> Option<(Hand<Slip>, Hand<S
     Some((first, second))
 }
 
-/// Has two threads move so many frames at once, with notes between them, and gives what each counted.
+/// The driver's slip before its first move.
+fn first_slip(shared: &Shared, driver: &mut CheckedPass) -> Slip
+    requires { Rests shared.now driver.old }
+    ensures rests { Rests shared.now driver.new }
+    ensures table { result.note.table ≡ shared.now.table }
+{
+    Slip {
+        note: driver.note(shared),
+        by_driver: true,
+        moved: 0,
+    }
+}
+
+/// A desk with two hands, on which a slip lies.
+fn open_desk(alloc: Global, slip: Slip) -> Option<(Desk, Vec<Hand<Slip>>)>
+    ensures name { IfSome result (λ made. made.0.name ≡ slip.note.table) }
+    ensures hands { IfSome result (λ made. (made.1.items ≡ new_hands made.0) × (made.0.hands ≡ 2)) }
+{
+    match Lock::new(alloc, slip, 2) {
+        Ok(made) => Some(made),
+        Err(_) => None,
+    }
+}
+
+/// Has both callers move all at once, by a desk of theirs. Whether both have, and neither waited.
+fn move_by_desk<R: Threads + Sync>(
+    rt: &R,
+    shared: &Shared,
+    desk: &Desk,
+    hands: Vec<Hand<Slip>>,
+    driver: CheckedPass,
+    app: CheckedPass,
+) -> bool
+    requires rests { Rests shared.now driver × Rests shared.now app }
+    requires hands { (hands.items ≡ new_hands desk.now) × (desk.now.hands ≡ 2) }
+    requires table { desk.now.name ≡ shared.now.table }
+{
+    let Some((first, second)) = both_hands(desk, hands) else {
+        return false;
+    };
+    let there = new_moves(shared, desk, first, driver, Way::There);
+    let back = new_moves(shared, desk, second, app, Way::Back);
+    let (there, back) = do_two(rt, there, back);
+    never_waited(&there) && never_waited(&back)
+}
+
+/// The same with a desk of their own.
 fn move_with_notes<R: Threads + Sync>(
     rt: &R,
     alloc: Global,
-    first: u32,
-) -> Result<(Option<Tally>, Option<Tally>), Fail> {
-    let (shared, passes) = open(alloc, ENTRIES, first)?;
-    let Some((driver, app)) = take_both(alloc, &shared, passes) else {
-        return Err("no passes")?;
-    };
+    shared: &Shared,
+    driver: CheckedPass,
+    app: CheckedPass,
+) -> bool
+    requires { Rests shared.now driver × Rests shared.now app }
+{
     let mut driver = driver;
-    let slip = Slip {
-        note: driver.note(&shared),
-        way: Way::There,
-        moved: 0,
-    };
-    let Ok((desk, hands)) = Lock::new(alloc, slip, 2) else {
-        return Err("want of memory")?;
-    };
-    let Some((mine, theirs)) = both_hands(&desk, hands) else {
-        return Err("no hands")?;
-    };
-    let (table, lock) = (&shared, &desk);
-    Ok(thread::join(
-        rt,
-        move || -> Option<Tally>
-            requires rests { Rests table.now driver }
-            requires belongs { Belongs lock.now mine }
-            requires off { IsOff mine }
-            requires name { lock.now.name ≡ table.now.table }
-        { moves_shown(alloc, table, lock, mine, driver, Way::There, MOVES) },
-        move || -> Option<Tally>
-            requires rests { Rests table.now app }
-            requires belongs { Belongs lock.now theirs }
-            requires off { IsOff theirs }
-            requires name { lock.now.name ≡ table.now.table }
-        { moves_shown(alloc, table, lock, theirs, app, Way::Back, MOVES) },
-    ))
+    let slip = first_slip(shared, &mut driver);
+    match open_desk(alloc, slip) {
+        Some((desk, hands)) => move_by_desk(rt, shared, &desk, hands, driver, app),
+        None => false,
+    }
 }
 
-/// Whether each call of a caller went on at once.
-fn never_waited(tally: Option<Tally>) -> bool {
-    let Some(tally) = tally else {
+/// Whether two threads that hand each other notes never wait, over rings whose counts start at a number.
+fn notes_show_what_is_there<R: Threads + Sync>(rt: &R, alloc: Global, first: u32) -> bool {
+    let Some((shared, _passes, crew)) = open(alloc, ENTRIES, first) else {
         return false;
     };
-    tally.asked == 2 * MOVES && tally.waits == 0
+    let Crew { receiver, app, .. } = crew;
+    move_with_notes(rt, alloc, &shared, receiver, app)
 }
 
 /// A driver's note shows the application that items stand in RX, and the application's that frames stand in FILL and that RX
 /// has room. So no Peek is Empty and no Reserve Full, though both threads run.
 #[test]
-fn what_a_note_of_a_live_thread_shows_is_there(rt: HostRuntime) -> Result<(), Fail> {
-    for first in [0, 4_294_967_293] {
-        let (there, back) = move_with_notes(&rt, rt.alloc(), first)?;
-        assert!(rt; never_waited(there) && never_waited(back));
-    }
-    Ok(())
+fn what_a_note_of_a_live_thread_shows_is_there(rt: HostRuntime) {
+    assert!(rt; notes_show_what_is_there(&rt, rt.alloc(), 0));
+    assert!(rt; notes_show_what_is_there(&rt, rt.alloc(), 4_294_967_293));
 }

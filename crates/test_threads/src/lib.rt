@@ -6,6 +6,8 @@
 #[cfg(test)]
 mod circling;
 #[cfg(test)]
+mod crew;
+#[cfg(test)]
 mod files;
 #[cfg(test)]
 mod gates;
@@ -18,8 +20,12 @@ mod interrupted;
 #[cfg(test)]
 mod moving;
 #[cfg(test)]
+mod packets;
+#[cfg(test)]
 mod sendable;
 #[cfg(test)]
 mod sending;
 #[cfg(test)]
 mod setting;
+#[cfg(test)]
+mod tasks;

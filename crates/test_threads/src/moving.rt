@@ -1,18 +1,16 @@
 //! Frames that move one at a time from FILL over RX and back: on one thread in bursts, and on two threads at once, from
 //! counts that wrap too.
-ghost use Rattle.std.specs.Prelude.{◌≡◌, IfOk, IfSome};
+ghost use Rattle.std.specs.Prelude.{◌≡◌, ◌≤◌};
 ghost use Rattle.xsk_rings.specs.Rounds.{Rests};
-ghost use Rattle.xsk_table.specs.Opening.{new_passes};
 
+use crate::crew::{Crew, open};
 use crate::going::{Tally, make, peek, reserve};
-use crate::setting::{layout, set_up};
+use crate::tasks::{Task, do_two};
 use std::alloc::Global;
-use std::test::Fail;
-use std::thread;
 use std::thread::Threads;
 use xsk_model::{Call, Ring};
 use xsk_rings::CheckedPass;
-use xsk_table::{Passes, Shared};
+use xsk_table::Shared;
 use xsk_umem::{Batch, Frame, Item, XdpDesc};
 
 /// How many frames each of two threads moves.
@@ -22,7 +20,7 @@ const MOVES: u32 = 10_000;
 const CHUNK: u32 = 2048;
 
 /// Which way a caller moves frames.
-#[derive(Clone, Copy, PartialEq, Eq)]
+#[derive(Clone, Copy)]
 pub(crate) enum Way {
     /// The receiving driver's: from FILL to RX.
     There,
@@ -62,61 +60,18 @@ fn byte_at(number: u32, round: u32, at: u32) -> u8 {
     ((u64::from(number) * 31 + u64::from(round) * 13 + at * 7 + at / 256) % 251) as u8
 }
 
-/// The frame of an item, with a packet of the round, all of whose bytes are its own.
-fn received(item: Item, round: u32) -> Option<Item> {
-    let mut frame = item.frame?;
-    let number = frame.number();
+/// The bytes of a frame that was received in a round, all of which are its own.
+fn bytes_of(number: u32, round: u32) -> [u8; 2048] {
     let mut bytes = [0u8; 2048];
     for at in 0..CHUNK {
         bytes[at as usize] = byte_at(number, round, at);
     }
-    if frame.bytes().len() != 2048 {
-        return None;
-    }
-    frame.fill(0, &bytes);
-    Some(item_on(frame, 256, 60))
+    bytes
 }
 
-/// The frame of a packet that was received in the round, as an address so far behind its start. All bytes must be as they
-/// were received.
-fn returned(item: Item, round: u32, offset: u32) -> Option<Item> {
-    let frame = item.frame?;
-    if item.desc != desc_on(frame.number(), 256, 60) || !is_written(&frame, round) {
-        return None;
-    }
-    Some(item_on(frame, offset, 0))
-}
-
-/// What goes on, of an item that was taken in a round.
-fn turned(way: Way, item: Item, round: u32) -> Option<Item> {
-    match way {
-        Way::There => received(item, round),
-        Way::Back => returned(item, round, 0),
-        Way::Out => returned(item, round, 256),
-        Way::Over | Way::Home => Some(item),
-    }
-}
-
+/// Whether a frame has the bytes with which it was received in a round.
 pub(crate) fn is_written(frame: &Frame, round: u32) -> bool {
-    let number = frame.number();
-    let bytes = frame.bytes();
-    if bytes.len() != 2048 {
-        return false;
-    }
-    for at in 0..CHUNK {
-        if bytes[at as usize] != byte_at(number, round, at) {
-            return false;
-        }
-    }
-    true
-}
-
-fn item_on(frame: Frame, offset: u32, len: u32) -> Item {
-    let desc = desc_on(frame.number(), offset, len);
-    Item {
-        frame: Some(frame),
-        desc,
-    }
+    frame.bytes() == bytes_of(frame.number(), round).as_slice()
 }
 
 fn desc_on(number: u32, offset: u32, len: u32) -> XdpDesc {
@@ -127,9 +82,99 @@ fn desc_on(number: u32, offset: u32, len: u32) -> XdpDesc {
     }
 }
 
+/// Makes of an item a packet of the round. False where it has no frame of this size.
+fn receive(item: &mut Item, round: u32) -> bool {
+    let Some(frame) = &mut item.frame else {
+        return false;
+    };
+    if frame.bytes().len() != 2048 {
+        return false;
+    }
+    let number = frame.number();
+    frame.fill(0, bytes_of(number, round).as_slice());
+    item.desc = desc_on(number, 256, 60);
+    true
+}
+
+/// Makes of the item of a packet that was received in the round the address so far behind the start of its frame. False where
+/// not all bytes are as they were received.
+fn hand_back(item: &mut Item, round: u32, offset: u32) -> bool {
+    let Some(frame) = &item.frame else {
+        return false;
+    };
+    let number = frame.number();
+    let written = is_written(frame, round);
+    let found = item.desc;
+    item.desc = desc_on(number, offset, 0);
+    written && found == desc_on(number, 256, 60)
+}
+
+/// Makes of an item that was taken in a round what goes on. False where it isn't as it must be.
+fn turn(way: Way, item: &mut Item, round: u32) -> bool {
+    match way {
+        Way::There => receive(item, round),
+        Way::Back => hand_back(item, round, 0),
+        Way::Out => hand_back(item, round, 256),
+        Way::Over | Way::Home => true,
+    }
+}
+
+/// Takes an item in a round, as it goes on.
+fn take(
+    shared: &Shared,
+    pass: &mut CheckedPass,
+    way: Way,
+    round: u32,
+    tally: &mut Tally,
+) -> Option<Item>
+    requires { Rests shared.now pass.old }
+    ensures rests { Rests shared.now pass.new }
+    ensures caller { pass.new.who ≡ pass.old.who }
+{
+    let mut item = peek(shared, pass, way.source(), tally)?;
+    if turn(way, &mut item, round) {
+        Some(item)
+    } else {
+        None
+    }
+}
+
+/// Gives an item to the place that is reserved for it.
+fn give(
+    shared: &Shared,
+    pass: &mut CheckedPass,
+    ring: Ring,
+    item: Item,
+    tally: &mut Tally,
+) -> Option<()>
+    requires { Rests shared.now pass.old }
+    ensures rests { Rests shared.now pass.new }
+    ensures caller { pass.new.who ≡ pass.old.who }
+{
+    let mut items = Batch::new();
+    items.push(item);
+    make(shared, pass, Call::Submit(ring, items), tally)?;
+    Some(())
+}
+
+/// Releases the place of an item and gives it to the next.
+fn pass_on(
+    shared: &Shared,
+    pass: &mut CheckedPass,
+    way: Way,
+    item: Item,
+    tally: &mut Tally,
+) -> Option<()>
+    requires { Rests shared.now pass.old }
+    ensures rests { Rests shared.now pass.new }
+    ensures caller { pass.new.who ≡ pass.old.who }
+{
+    make(shared, pass, Call::Release(way.source(), 1), tally)?;
+    give(shared, pass, way.sink(), item, tally)
+}
+
 /// Moves one frame in a round.
 pub(crate) fn move_one(
-    alloc: Global,
     shared: &Shared,
     pass: &mut CheckedPass,
     way: Way,
@@ -141,18 +186,12 @@ pub(crate) fn move_one(
     ensures caller { pass.new.who ≡ pass.old.who }
 {
     reserve(shared, pass, way.sink(), tally)?;
-    let item = peek(shared, pass, way.source(), tally)?;
-    let item = turned(way, item, round)?;
-    let mut items = Batch::new();
-    items.push(item);
-    make(shared, pass, Call::Release(way.source(), 1), tally)?;
-    make(shared, pass, Call::Submit(way.sink(), items), tally)?;
-    Some(())
+    let item = take(shared, pass, way, round, tally)?;
+    pass_on(shared, pass, way, item, tally)
 }
 
 /// Moves so many frames, in rounds from this one on.
 pub(crate) fn move_all(
-    alloc: Global,
     shared: &Shared,
     pass: &mut CheckedPass,
     way: Way,
@@ -165,161 +204,162 @@ pub(crate) fn move_all(
     ensures caller { pass.new.who ≡ pass.old.who }
 {
     'rounds: for round in 0..count {
-        move_one(alloc, shared, pass, way, first.wrapping_add(round), tally)?;
+        move_one(shared, pass, way, first.wrapping_add(round), tally)?;
     }
     Some(())
 }
 
+/// In turn each of two callers moves 32.
+fn move_burst(
+    shared: &Shared,
+    driver: &mut CheckedPass,
+    app: &mut CheckedPass,
+    burst: u32,
+    there: &mut Tally,
+    back: &mut Tally,
+) -> Option<()>
+    requires driver { Rests shared.now driver.old }
+    requires app { Rests shared.now app.old }
+    ensures driver { Rests shared.now driver.new }
+    ensures app { Rests shared.now app.new }
+{
+    move_all(shared, driver, Way::There, burst, 32, there)?;
+    move_all(shared, app, Way::Back, burst, 32, back)
+}
+
 /// In turn each of two callers moves 32, ten times.
 fn move_in_bursts(
-    alloc: Global,
     shared: &Shared,
-    driver: CheckedPass,
-    app: CheckedPass,
-) -> Option<(Tally, Tally)>
-    requires { Rests shared.now driver × Rests shared.now app }
+    driver: &mut CheckedPass,
+    app: &mut CheckedPass,
+    there: &mut Tally,
+    back: &mut Tally,
+) -> Option<()>
+    requires driver { Rests shared.now driver.old }
+    requires app { Rests shared.now app.old }
 {
-    let (mut driver, mut app) = (driver, app);
-    let (mut there, mut back) = (Tally::default(), Tally::default());
     'bursts: for burst in 0..10 {
-        move_all(
-            alloc,
-            shared,
-            &mut driver,
-            Way::There,
-            burst,
-            32,
-            &mut there,
-        )?;
-        move_all(alloc, shared, &mut app, Way::Back, burst, 32, &mut back)?;
+        move_burst(shared, driver, app, burst, there, back)?;
     }
-    Some((there, back))
+    Some(())
 }
 
-/// What a thread counted that has moved so many.
-fn moves(alloc: Global, shared: &Shared, pass: CheckedPass, way: Way, count: u32) -> Option<Tally>
+/// A caller's moves, and what it counted.
+#[derive(Drop)]
+struct Moves<'a> {
+    shared: &'a Shared,
+    pass: CheckedPass,
+    way: Way,
+    tally: Tally,
+    has_moved: bool,
+}
+
+impl Task for Moves<'_> {
+    ghost use Rattle.xsk_rings.specs.Rounds.{Rests};
+
+    ghost is_ready = { λ m. Rests m.shared.now m.pass };
+
+    ghost is_done = { λ _ _. Unit {0} };
+
+    fn run(&mut self) {
+        let moved = move_all(
+            self.shared,
+            &mut self.pass,
+            self.way,
+            0,
+            MOVES,
+            &mut self.tally,
+        );
+        self.has_moved = moved.is_some();
+    }
+}
+
+/// The moves of a caller that has made none.
+fn new_moves(shared: &Shared, pass: CheckedPass, way: Way) -> Moves<'_>
     requires { Rests shared.now pass }
+    ensures { Rests shared.now result.pass × (result.shared.now ≡ shared.now) }
 {
-    let mut pass = pass;
-    let mut tally = Tally::default();
-    move_all(alloc, shared, &mut pass, way, 0, count, &mut tally)?;
-    Some(tally)
-}
-
-/// A table whose rings have so many entries and whose counts start at a number, with the passes of its callers.
-pub(crate) fn open(alloc: Global, entries: u32, first: u32) -> Result<(Shared, Passes), Fail>
-    ensures { IfOk result (λ made. made.1 ≡ new_passes made.0) }
-{
-    if entries > 2048 {
-        return Err("a ring has at most 2048 entries")?;
-    }
-    let (config, frames) = set_up(alloc, &layout(1, entries))?;
-    match Shared::open(alloc, config, frames, first) {
-        Ok(made) => Ok(made),
-        Err(_) => Err("want of memory")?,
+    Moves {
+        shared,
+        pass,
+        way,
+        tally: Tally::default(),
+        has_moved: false,
     }
 }
 
-/// Takes the passes of the first driver and of the application, and checks them.
-pub(crate) fn take_both(
-    alloc: Global,
-    shared: &Shared,
-    passes: Passes,
-) -> Option<(CheckedPass, CheckedPass)>
-    requires { passes ≡ new_passes shared.now }
-    ensures { IfSome result (λ both. Rests shared.now both.0 × Rests shared.now both.1) }
-{
-    if shared.config().callers() < 3 {
-        return None;
-    }
-    let mut passes = passes;
-    let driver = passes.take(0)?;
-    let app = passes.take(2)?;
-    let Ok(driver) = CheckedPass::new(alloc, shared, driver) else {
-        return None;
-    };
-    let Ok(app) = CheckedPass::new(alloc, shared, app) else {
-        return None;
-    };
-    Some((driver, app))
-}
-
-/// Has the driver and the application move so many at once, and gives what each counted that has moved all.
-fn move_at_once<R: Threads + Sync>(
-    rt: &R,
-    alloc: Global,
-    entries: u32,
-    first: u32,
-    count: u32,
-) -> Result<(Option<Tally>, Option<Tally>), Fail> {
-    let (shared, passes) = open(alloc, entries, first)?;
-    let Some((driver, app)) = take_both(alloc, &shared, passes) else {
-        return Err("no passes")?;
-    };
-    let table = &shared;
-    Ok(thread::join(
-        rt,
-        move || -> Option<Tally>
-            requires { Rests table.now driver }
-        { moves(alloc, table, driver, Way::There, count) },
-        move || -> Option<Tally>
-            requires { Rests table.now app }
-        { moves(alloc, table, app, Way::Back, count) },
-    ))
-}
-
-/// Whether a caller has moved so many. Whatever the threads' turns: each frame took a Reserve and a Peek that went on, each
-/// that didn't has looked, and none looked twice.
-fn has_moved(tally: Option<Tally>, count: u32) -> bool {
-    let Some(tally) = tally else {
-        return false;
-    };
+/// Whether a caller has moved all. Whatever the threads' turns: each frame took a Reserve and a Peek that went on, each that
+/// didn't has looked, and none looked twice.
+fn has_moved(moves: &Moves<'_>) -> bool {
     let Tally {
         asked,
         waits,
         looks,
-    } = tally;
-    let went_on = u64::from(asked.saturating_sub(waits));
-    went_on == 2 * u64::from(count) && waits <= looks && looks <= asked
+    } = moves.tally;
+    let went_on = asked.saturating_sub(waits);
+    moves.has_moved && went_on == 2 * MOVES && waits <= looks && looks <= asked
 }
 
-fn frames_go_round<R: Threads + Sync>(
+/// Has the driver and the application move all at once. Whether both have.
+fn move_at_once<R: Threads + Sync>(
     rt: &R,
-    alloc: Global,
-    entries: u32,
-    first: u32,
-) -> Result<bool, Fail> {
-    let (there, back) = move_at_once(rt, alloc, entries, first, MOVES)?;
-    Ok(has_moved(there, MOVES) && has_moved(back, MOVES))
+    shared: &Shared,
+    driver: CheckedPass,
+    app: CheckedPass,
+) -> bool
+    requires { Rests shared.now driver × Rests shared.now app }
+{
+    let there = new_moves(shared, driver, Way::There);
+    let back = new_moves(shared, app, Way::Back);
+    let (there, back) = do_two(rt, there, back);
+    has_moved(&there) && has_moved(&back)
+}
+
+/// Whether frames go round on two threads, over rings of so many entries whose counts start at a number.
+fn frames_go_round<R: Threads + Sync>(rt: &R, alloc: Global, entries: u32, first: u32) -> bool
+    requires { entries ≤ 2048 }
+{
+    let Some((shared, _passes, crew)) = open(alloc, entries, first) else {
+        return false;
+    };
+    let Crew { receiver, app, .. } = crew;
+    move_at_once(rt, &shared, receiver, app)
+}
+
+/// What two callers count that move frames on one thread, over rings of 32 entries.
+fn counts_in_bursts(alloc: Global) -> Option<(Tally, Tally)> {
+    let (shared, _passes, crew) = open(alloc, 32, 4_294_967_000)?;
+    let mut crew = crew;
+    let (mut there, mut back) = (Tally::default(), Tally::default());
+    let moved = move_in_bursts(
+        &shared,
+        &mut crew.receiver,
+        &mut crew.app,
+        &mut there,
+        &mut back,
+    );
+    moved.map(|()| (there, back))
 }
 
 #[test]
-fn frames_go_round_on_two_threads(rt: HostRuntime) -> Result<(), Fail> {
-    assert!(rt; frames_go_round(&rt, rt.alloc(), 4, 0)?);
-    assert!(rt; frames_go_round(&rt, rt.alloc(), 32, 0)?);
-    Ok(())
+fn frames_go_round_on_two_threads(rt: HostRuntime) {
+    assert!(rt; frames_go_round(&rt, rt.alloc(), 4, 0));
+    assert!(rt; frames_go_round(&rt, rt.alloc(), 32, 0));
 }
 
 #[test]
-fn frames_go_round_where_counts_wrap(rt: HostRuntime) -> Result<(), Fail> {
-    assert!(rt; frames_go_round(&rt, rt.alloc(), 4, 4_294_967_293)?);
-    assert!(rt; frames_go_round(&rt, rt.alloc(), 32, 4_294_967_290)?);
-    Ok(())
+fn frames_go_round_where_counts_wrap(rt: HostRuntime) {
+    assert!(rt; frames_go_round(&rt, rt.alloc(), 4, 4_294_967_293));
+    assert!(rt; frames_go_round(&rt, rt.alloc(), 32, 4_294_967_290));
 }
 
 /// On one thread each look finds the whole ring free, or full: so a caller looks once in 32 calls that could look.
 #[test]
-fn looks_are_one_in_32_on_one_thread(rt: HostRuntime) -> Result<(), Fail> {
-    let alloc = rt.alloc();
-    let (shared, passes) = open(alloc, 32, 4_294_967_000)?;
-    let Some((driver, app)) = take_both(alloc, &shared, passes) else {
-        return Err("no passes")?;
-    };
+fn looks_are_one_in_32_on_one_thread(rt: HostRuntime) {
     let few = Tally {
         asked: 640,
         waits: 0,
         looks: 20,
     };
-    assert!(rt; move_in_bursts(alloc, &shared, driver, app) == Some((few, few)));
-    Ok(())
+    assert!(rt; counts_in_bursts(rt.alloc()) == Some((few, few)));
 }

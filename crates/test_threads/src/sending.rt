@@ -1,76 +1,74 @@
-//! Drivers and applications, each on a thread of its own, send what they send in rounds.
-ghost use Rattle.std.specs.Prelude.{◌≡◌, All, IfOk, OnOk, length};
+//! Drivers and applications, each on a thread of its own, send what they send in rounds, which is among the runs of `test_workers`.
+ghost use Rattle.std.specs.Prelude.{◌≡◌, All, IfSome, IsTrue};
+ghost use Rattle.xsk_model.specs.Config.{IsRegular};
+ghost use Rattle.xsk_model.specs.Opening.{AreFrames};
 ghost use Rattle.xsk_machine.specs.Acts.{HasShortPackets};
 ghost use Rattle.xsk_prog.specs.Chain.{AllObey};
 ghost use Rattle.xsk_turns.specs.Mangling.{plain};
 ghost use Rattle.xsk_workers.specs.Hands.{AreHands, SuitHands};
 
-use crate::setting::{are_alike, are_fronts, layout, packets, set_up};
+use crate::packets::{ALL, EVEN, NONE, Numbers, ODD, ONE, are_sent, lists};
+use crate::setting::{layout, set_up};
 use std::alloc::Global;
 use std::sync::Wait;
-use std::test::Fail;
 use std::thread::Threads;
+use xsk_driver::Wire;
 use xsk_gate::{Gate, Open, PairGate};
-use xsk_machine::Sent;
 use xsk_model::Config;
 use xsk_prog::{Chain, Rule, Verdict, XdpProgram};
-use xsk_sim::{Wire, simulate};
 use xsk_socket::Layout;
 use xsk_turns::Manner;
-use xsk_umem::PacketList;
+use xsk_umem::{Frames, PacketList};
 use xsk_workers::{Outcome, forward};
 
-/// What a run in rounds comes to.
-fn sent_in_rounds<F: Fn(&[u8], u32) -> Verdict>(
-    alloc: Global,
-    layout: &Layout,
-    lists: &[PacketList],
-    chain: &mut Chain<F>,
-) -> Result<Sent, Fail>
-    requires short { All HasShortPackets lists.now }
-    requires obeys { AllObey F.Fn chain.old }
-    ensures obeys { AllObey F.Fn chain.new }
+/// Whether so many hands suit a configuration: several close no socket.
+fn suits(config: &Config, hands: u32) -> bool
+    ensures { IsTrue result → SuitHands hands config.now plain }
+{
+    if hands == 1 {
+        return true;
+    }
+    match config.closing() {
+        None => true,
+        Some(_) => false,
+    }
+}
+
+/// The configuration of a layout, with all frames, where so many hands suit it.
+fn set_up_for(alloc: Global, layout: &Layout, hands: u32) -> Option<(Config, Frames)>
+    ensures regular { IfSome result (λ made. IsRegular made.0) }
+    ensures frames { IfSome result (λ made. AreFrames made.0.geometry made.1.items) }
+    ensures ports { IfSome result (λ made. made.0.ports ≡ layout.now.ports) }
+    ensures suits { IfSome result (λ made. SuitHands hands made.0 plain) }
 {
     let (config, frames) = set_up(alloc, layout)?;
-    if lists.len() != config.ports() as usize {
-        return Err("there is no list for each port")?;
-    }
-    match simulate(
-        alloc,
-        config,
-        frames,
-        lists,
-        chain,
-        Wire::Wait,
-        0,
-        Manner::plain(),
-    ) {
-        Ok(run) => Ok(run.into_sent()),
-        Err(_) => Err("the run didn't end")?,
+    if suits(&config, hands) {
+        Some((config, frames))
+    } else {
+        None
     }
 }
 
 /// What a run on threads shows, where each application has so many hands.
-fn sent_on_threads<R: Threads + Wait + Sync, F: Fn(&[u8], u32) -> Verdict, G: Gate + Sync>(
+fn forwarded<R: Threads + Wait + Sync, F: Fn(&[u8], u32) -> Verdict, G: Gate + Sync>(
     rt: &R,
     alloc: Global,
     layout: &Layout,
+    hands: u32,
     lists: &[PacketList],
     chain: &mut Chain<F>,
     gate: &G,
-    hands: u32,
-) -> Result<Outcome, Fail>
+) -> Option<Outcome>
     requires hands { AreHands hands }
     requires short { All HasShortPackets lists.now }
     requires obeys { AllObey F.Fn chain.old }
-    ensures obeys { AllObey F.Fn chain.new }
 {
-    let (config, frames) = set_up(alloc, layout)?;
-    if lists.len() != config.ports() as usize {
-        return Err("there is no list for each port")?;
+    if lists.len() != layout.ports as usize {
+        return None;
     }
-    check_hands(&config, hands)?;
-    let outcome = forward(
+    let (config, frames) = set_up_for(alloc, layout, hands)?;
+    let manner = Manner::plain();
+    match forward(
         rt,
         alloc,
         config,
@@ -79,106 +77,80 @@ fn sent_on_threads<R: Threads + Wait + Sync, F: Fn(&[u8], u32) -> Verdict, G: Ga
         chain,
         Wire::Wait,
         gate,
-        Manner::plain(),
+        manner,
         hands,
-    )?;
-    Ok(outcome)
+    ) {
+        Ok(outcome) => Some(outcome),
+        Err(_) => None,
+    }
 }
 
-/// Passes so many hands, of which several close no socket.
-fn check_hands(config: &Config, hands: u32) -> Result<(), Fail>
-    ensures { OnOk result (SuitHands hands config.now plain) }
+/// Whether each program of a chain was asked so often.
+fn are_asked<F: Fn(&[u8], u32) -> Verdict>(chain: &Chain<F>, count: u64) -> bool {
+    for program in chain.programs() {
+        if program.asked() != count {
+            return false;
+        }
+    }
+    true
+}
+
+/// A run under a chain whose programs are each asked so often.
+fn forwarded_asking<R: Threads + Wait + Sync, F: Fn(&[u8], u32) -> Verdict, G: Gate + Sync>(
+    rt: &R,
+    alloc: Global,
+    layout: &Layout,
+    hands: u32,
+    lists: &[PacketList],
+    chain: &mut Chain<F>,
+    gate: &G,
+    count: u64,
+) -> Option<Outcome>
+    requires hands { AreHands hands }
+    requires short { All HasShortPackets lists.now }
+    requires obeys { AllObey F.Fn chain.old }
 {
-    if hands == 1 {
-        return Ok(());
-    }
-    match config.closing() {
-        None => Ok(()),
-        Some(_) => Err("several hands close no socket")?,
+    let outcome = forwarded(rt, alloc, layout, hands, lists, chain, gate);
+    if are_asked(chain, count) {
+        outcome
+    } else {
+        None
     }
 }
 
-/// Whether a run on threads, by one hand, sends the first packets of each list.
-fn sends_fronts<R: Threads + Wait + Sync, F: Fn(&[u8], u32) -> Verdict>(
+/// A run under a program that redirects each packet to the cell of its queue.
+fn redirected<R: Threads + Wait + Sync, G: Gate + Sync>(
+    rt: &R,
+    alloc: Global,
+    layout: &Layout,
+    hands: u32,
+    lists: &[PacketList],
+    gate: &G,
+    count: u64,
+) -> Option<Outcome>
+    requires hands { AreHands hands }
+    requires short { All HasShortPackets lists.now }
+{
+    let rule = Rule::Redirect { sockets: 1 };
+    let program = XdpProgram::attach(rule, |bytes: &[u8], queue: u32| rule.verdict(bytes, queue));
+    match Chain::of(alloc, program) {
+        Ok(chain) => {
+            let mut chain = chain;
+            forwarded_asking(rt, alloc, layout, hands, lists, &mut chain, gate, count)
+        }
+        Err(_) => None,
+    }
+}
+
+/// A run by one hand under a closure of one's own, which redirects each even packet to the first cell.
+fn redirected_if_even<R: Threads + Wait + Sync>(
     rt: &R,
     alloc: Global,
     layout: &Layout,
     lists: &[PacketList],
-    chain: &mut Chain<F>,
-    all: &Sent,
-) -> Result<bool, Fail>
-    requires short { All HasShortPackets lists.now }
-    requires obeys { AllObey F.Fn chain.old }
-    ensures obeys { AllObey F.Fn chain.new }
+) -> Option<Outcome>
+    requires { All HasShortPackets lists.now }
 {
-    let threads = sent_on_threads(rt, alloc, layout, lists, chain, &Open, 1)?;
-    Ok(are_fronts(threads.lists(), all.lists()))
-}
-
-/// Whether a run on threads, by one hand, sends what a run in rounds did.
-fn sends_alike<R: Threads + Wait + Sync, F: Fn(&[u8], u32) -> Verdict>(
-    rt: &R,
-    alloc: Global,
-    layout: &Layout,
-    lists: &[PacketList],
-    chain: &mut Chain<F>,
-    rounds: &Sent,
-) -> Result<bool, Fail>
-    requires short { All HasShortPackets lists.now }
-    requires obeys { AllObey F.Fn chain.old }
-    ensures obeys { AllObey F.Fn chain.new }
-{
-    let threads = sent_on_threads(rt, alloc, layout, lists, chain, &Open, 1)?;
-    Ok(are_alike(threads.lists(), rounds.lists()))
-}
-
-#[test]
-fn threads_that_close_a_socket_send_the_first(rt: HostRuntime) -> Result<(), Fail> {
-    let alloc = rt.alloc();
-    let lists = vec![in alloc; packets(alloc, 200)?, packets(alloc, 200)?]?;
-    let rule = Rule::Redirect { sockets: 1 };
-    let program = XdpProgram::attach(rule, |bytes: &[u8], queue: u32| rule.verdict(bytes, queue));
-    let mut chain = Chain::of(alloc, program)?;
-    let mut layout = layout(1, 4);
-    let all = sent_in_rounds(alloc, &layout, lists.as_slice(), &mut chain)?;
-    layout.close = Some(0);
-    let rounds = sent_in_rounds(alloc, &layout, lists.as_slice(), &mut chain)?;
-    assert!(rt; are_fronts(rounds.lists(), all.lists()));
-    let first = sends_fronts(&rt, alloc, &layout, lists.as_slice(), &mut chain, &all)?;
-    let second = sends_fronts(&rt, alloc, &layout, lists.as_slice(), &mut chain, &all)?;
-    let third = sends_fronts(&rt, alloc, &layout, lists.as_slice(), &mut chain, &all)?;
-    let fourth = sends_fronts(&rt, alloc, &layout, lists.as_slice(), &mut chain, &all)?;
-    assert!(rt; first && second && third && fourth);
-    Ok(())
-}
-
-#[test]
-fn threads_send_what_rounds_send(rt: HostRuntime) -> Result<(), Fail> {
-    let alloc = rt.alloc();
-    let lists = vec![in alloc; packets(alloc, 200)?, packets(alloc, 200)?]?;
-    let rule = Rule::Redirect { sockets: 1 };
-    let program = XdpProgram::attach(rule, |bytes: &[u8], queue: u32| rule.verdict(bytes, queue));
-    let mut chain = Chain::of(alloc, program)?;
-    let layout = layout(2, 4);
-    let rounds = sent_in_rounds(alloc, &layout, lists.as_slice(), &mut chain)?;
-    assert!(rt; rounds.lists().iter().all(|list| list.len() == 100));
-    let first = sends_alike(&rt, alloc, &layout, lists.as_slice(), &mut chain, &rounds)?;
-    let second = sends_alike(&rt, alloc, &layout, lists.as_slice(), &mut chain, &rounds)?;
-    assert!(rt; first && second);
-    // Three runs over 200 packets for each of two ports.
-    assert!(rt;
-        chain
-            .programs()
-            .iter()
-            .all(|program| program.asked() == 1200)
-    );
-    Ok(())
-}
-
-#[test]
-fn threads_send_what_a_closure_of_ones_own_redirects(rt: HostRuntime) -> Result<(), Fail> {
-    let alloc = rt.alloc();
-    let lists = vec![in alloc; packets(alloc, 200)?, packets(alloc, 200)?]?;
     let program = XdpProgram::attach(Rule::AtMost(1), |bytes: &[u8], _queue: u32| {
         if bytes[0] % 2 == 0 {
             Verdict::Redirect(0)
@@ -186,101 +158,130 @@ fn threads_send_what_a_closure_of_ones_own_redirects(rt: HostRuntime) -> Result<
             Verdict::Drop
         }
     });
-    let mut chain = Chain::of(alloc, program)?;
+    match Chain::of(alloc, program) {
+        Ok(chain) => {
+            let mut chain = chain;
+            forwarded(rt, alloc, layout, 1, lists, &mut chain, &Open)
+        }
+        Err(_) => None,
+    }
+}
+
+/// Whether an outcome is there and its drivers have sent these packets, or where a socket is closed the first of them.
+fn has_sent(outcome: Option<Outcome>, layout: &Layout, wanted: &[Numbers]) -> bool {
+    match outcome {
+        Some(outcome) => are_sent(outcome.lists(), wanted, layout.close.is_none()),
+        None => false,
+    }
+}
+
+/// Whether a run on threads under a program that redirects each packet, and is asked once for each, sends these packets, or where a
+/// socket is closed the first of them.
+fn sends<R: Threads + Wait + Sync, G: Gate + Sync>(
+    rt: &R,
+    alloc: Global,
+    layout: &Layout,
+    hands: u32,
+    packets: [Numbers; 2],
+    gate: &G,
+    wanted: &[Numbers],
+) -> bool
+    requires { AreHands hands }
+{
+    let Some(lists) = lists(alloc, packets) else {
+        return false;
+    };
+    let count = u64::from(packets[0].count) + u64::from(packets[1].count);
+    let outcome = redirected(rt, alloc, layout, hands, lists.as_slice(), gate, count);
+    has_sent(outcome, layout, wanted)
+}
+
+/// Whether a run on threads of all packets sends what rounds send of them.
+fn sends_all<R: Threads + Wait + Sync>(
+    rt: &R,
+    alloc: Global,
+    layout: &Layout,
+    hands: u32,
+    wanted: &[Numbers],
+) -> bool
+    requires { AreHands hands }
+{
+    sends(rt, alloc, layout, hands, [ALL, ALL], &Open, wanted)
+}
+
+/// Whether a run on threads sends the one packet of the first port by the second.
+fn sends_one<R: Threads + Wait + Sync>(rt: &R, alloc: Global, hands: u32, gate: &PairGate) -> bool
+    requires { AreHands hands }
+{
+    sends(
+        rt,
+        alloc,
+        &layout(1, 4),
+        hands,
+        [ONE, NONE],
+        gate,
+        &[NONE, ONE],
+    )
+}
+
+/// Whether a run under a closure of one's own sends the even packets.
+fn sends_even<R: Threads + Wait + Sync>(rt: &R, alloc: Global) -> bool {
     let layout = layout(1, 4);
-    let rounds = sent_in_rounds(alloc, &layout, lists.as_slice(), &mut chain)?;
-    let threads = sent_on_threads(&rt, alloc, &layout, lists.as_slice(), &mut chain, &Open, 1)?;
-    assert!(rt; rounds.lists().iter().all(|list| list.len() == 100));
-    assert!(rt; are_alike(threads.lists(), rounds.lists()));
-    Ok(())
+    let Some(lists) = lists(alloc, [ALL, ALL]) else {
+        return false;
+    };
+    let outcome = redirected_if_even(rt, alloc, &layout, lists.as_slice());
+    has_sent(outcome, &layout, &[EVEN, EVEN])
+}
+
+#[test]
+fn threads_that_close_a_socket_send_the_first(rt: HostRuntime) {
+    let mut layout = layout(1, 4);
+    layout.close = Some(0);
+    for _ in 0..4 {
+        assert!(rt; sends_all(&rt, rt.alloc(), &layout, 1, &[ALL, ALL]));
+    }
+}
+
+#[test]
+fn threads_send_what_rounds_send(rt: HostRuntime) {
+    let layout = layout(2, 4);
+    for _ in 0..2 {
+        assert!(rt; sends_all(&rt, rt.alloc(), &layout, 1, &[ODD, EVEN, ODD, EVEN]));
+    }
+}
+
+#[test]
+fn threads_send_what_a_closure_of_ones_own_redirects(rt: HostRuntime) {
+    assert!(rt; sends_even(&rt, rt.alloc()));
 }
 
 /// Workers run at once: two drivers meet at a gate that holds each until the other has come.
 #[test]
-fn two_drivers_meet_at_the_gate(rt: HostRuntime) -> Result<(), Fail> {
-    let alloc = rt.alloc();
-    let lists = vec![in alloc; packets(alloc, 1)?, packets(alloc, 0)?]?;
-    let sent = vec![in alloc; packets(alloc, 0)?, packets(alloc, 1)?]?;
-    let rule = Rule::Redirect { sockets: 1 };
-    let program = XdpProgram::attach(rule, |bytes: &[u8], queue: u32| rule.verdict(bytes, queue));
-    let mut chain = Chain::of(alloc, program)?;
+fn two_drivers_meet_at_the_gate(rt: HostRuntime) {
     let gate = PairGate::new();
-    let threads = sent_on_threads(
-        &rt,
-        alloc,
-        &layout(1, 4),
-        lists.as_slice(),
-        &mut chain,
-        &gate,
-        1,
-    )?;
+    assert!(rt; sends_one(&rt, rt.alloc(), 1, &gate));
     assert!(rt; gate.entered(0) && gate.entered(1));
     assert!(rt; !gate.limit_met());
-    assert!(rt; are_alike(threads.lists(), sent.as_slice()));
-    Ok(())
-}
-
-/// Whether applications by two hands and by four send what they send in rounds.
-fn several_send_alike<R: Threads + Wait + Sync, F: Fn(&[u8], u32) -> Verdict>(
-    rt: &R,
-    alloc: Global,
-    layout: &Layout,
-    lists: &[PacketList],
-    chain: &mut Chain<F>,
-) -> Result<bool, Fail>
-    requires short { All HasShortPackets lists.now }
-    requires obeys { AllObey F.Fn chain.old }
-    ensures obeys { AllObey F.Fn chain.new }
-{
-    let rounds = sent_in_rounds(alloc, layout, lists, chain)?;
-    let two = sent_on_threads(rt, alloc, layout, lists, chain, &Open, 2)?;
-    let four = sent_on_threads(rt, alloc, layout, lists, chain, &Open, 4)?;
-    let alike = are_alike(two.lists(), rounds.lists());
-    Ok(alike && are_alike(four.lists(), rounds.lists()))
 }
 
 /// Two queues with an application of several hands each, where drivers sleep and where they don't.
 #[test]
-fn several_hands_send_what_rounds_send(rt: HostRuntime) -> Result<(), Fail> {
-    let alloc = rt.alloc();
-    let lists = vec![in alloc; packets(alloc, 200)?, packets(alloc, 200)?]?;
-    let rule = Rule::Redirect { sockets: 1 };
-    let program = XdpProgram::attach(rule, |bytes: &[u8], queue: u32| rule.verdict(bytes, queue));
-    let mut chain = Chain::of(alloc, program)?;
-    let awake = layout(2, 4);
-    let asleep = Layout {
-        wakeup: true,
-        ..layout(2, 4)
-    };
-    let alike = several_send_alike(&rt, alloc, &awake, lists.as_slice(), &mut chain)?;
-    assert!(rt; alike);
-    let alike = several_send_alike(&rt, alloc, &asleep, lists.as_slice(), &mut chain)?;
-    assert!(rt; alike);
-    Ok(())
+fn several_hands_send_what_rounds_send(rt: HostRuntime) {
+    let mut layout = layout(2, 4);
+    assert!(rt; sends_all(&rt, rt.alloc(), &layout, 2, &[ODD, EVEN, ODD, EVEN]));
+    assert!(rt; sends_all(&rt, rt.alloc(), &layout, 4, &[ODD, EVEN, ODD, EVEN]));
+    layout.wakeup = true;
+    assert!(rt; sends_all(&rt, rt.alloc(), &layout, 2, &[ODD, EVEN, ODD, EVEN]));
+    assert!(rt; sends_all(&rt, rt.alloc(), &layout, 4, &[ODD, EVEN, ODD, EVEN]));
 }
 
 /// Hands run at once: there are two drivers and one application, so its hands have the numbers 3 and 4 at the gate, which holds
 /// each until the other has come.
 #[test]
-fn two_hands_meet_at_the_gate(rt: HostRuntime) -> Result<(), Fail> {
-    let alloc = rt.alloc();
-    let lists = vec![in alloc; packets(alloc, 1)?, packets(alloc, 0)?]?;
-    let sent = vec![in alloc; packets(alloc, 0)?, packets(alloc, 1)?]?;
-    let rule = Rule::Redirect { sockets: 1 };
-    let program = XdpProgram::attach(rule, |bytes: &[u8], queue: u32| rule.verdict(bytes, queue));
-    let mut chain = Chain::of(alloc, program)?;
+fn two_hands_meet_at_the_gate(rt: HostRuntime) {
     let gate = PairGate::of(3, 4);
-    let threads = sent_on_threads(
-        &rt,
-        alloc,
-        &layout(1, 4),
-        lists.as_slice(),
-        &mut chain,
-        &gate,
-        2,
-    )?;
+    assert!(rt; sends_one(&rt, rt.alloc(), 2, &gate));
     assert!(rt; gate.entered(3) && gate.entered(4));
     assert!(rt; !gate.limit_met());
-    assert!(rt; are_alike(threads.lists(), sent.as_slice()));
-    Ok(())
 }

@@ -1,5 +1,0 @@
-use Rattle.std.proofs.Common.{◌∙◌, sym, inr, refl}
-use Rattle.test_threads.proofs.sending.check_hands.Goals as goal
-
-pub returns-in-None : goal.returns-in-None
-returns-in-None c = inr (sym c.closing.ensures.value ∙ c.in-None.is, refl)
