@@ -6,7 +6,7 @@ use crate::frames::Frames;
 use crate::generated::Generated;
 use crate::interfaces::Interfaces;
 use crate::layouts::Layouts;
-use crate::line::{Fault, Line};
+use crate::line::{Fault, Line, cut};
 use crate::locks::Locks;
 use crate::packed::Packed;
 use crate::packets::Packets;
@@ -25,11 +25,9 @@ pub trait Case {
 /// A case's lines, and what came of them.
 pub fn tell(alloc: Global, text: &str) -> Result<String, AllocError> {
     let mut told = Told::new(alloc);
-    match text.split_once("\n") {
-        Some((head, lines)) => begin(alloc, head, lines, &mut told),
-        None => begin(alloc, text, "", &mut told),
-    }
-    told.say("\n");
+    let (head, lines) = cut(text, "\n");
+    begin(alloc, head, lines, &mut told);
+    told.say("\n\n");
     told.into_text()
 }
 

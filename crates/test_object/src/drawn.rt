@@ -8,8 +8,7 @@ use crate::object::Engine;
 use crate::stage::Stage;
 use crate::told::Told;
 use crate::words::{Body, Move, Thing, read_thing};
-use std::alloc::{AllocError, Global};
-use std::string::String;
+use std::alloc::Global;
 use xsk_model::{Mark, Ring};
 use xsk_umem::{OutOfMemory, XdpDesc};
 
@@ -264,7 +263,7 @@ impl Game {
                 &stage.hand.known,
                 who,
                 things.as_slice(),
-                reply.words.as_str(),
+                stage.words.text(),
             )?;
             stage.keep(who)?;
         }
@@ -301,14 +300,16 @@ impl Game {
         Ok(true)
     }
 
-    /// What is told of it.
-    fn told(&self, alloc: Global, legal: bool) -> Result<String, AllocError> {
-        let mut told = Told::new(alloc);
-        self.tally.tell(&mut told);
-        if !legal {
-            told.say(" and no call is legal");
-        }
-        told.into_text()
+    /// Tells what came of it.
+    fn tell(&self, line: &str, legal: bool, told: &mut Told) {
+        told.say(line);
+        told.say(": ");
+        self.tally.tell(told);
+        told.say(if legal {
+            "\n"
+        } else {
+            " and no call is legal\n"
+        });
     }
 }
 
@@ -321,7 +322,6 @@ pub(crate) fn drawn<E: Engine, B: Board>(
 ) -> Result<(), OutOfMemory> {
     let mut game = Game::new(stage.alloc, seed);
     let legal = game.play(stage, calls)?;
-    let text = game.told(stage.alloc, legal)?;
-    stage.say(line, text.as_str());
+    game.tell(line, legal, &mut stage.out);
     Ok(())
 }

@@ -44,7 +44,7 @@ fn compare<E: Engine, B: Board>(stage: &mut Stage<E, B>) -> Result<(), OutOfMemo
     let same = lines.as_slice() == stage.lines.as_slice();
     let by_same = callers.as_slice() == stage.callers.as_slice();
     if !same || !by_same {
-        stage.print("  a walk tells other lines");
+        stage.out.say("  a walk tells other lines\n");
     }
     Ok(())
 }
@@ -57,9 +57,14 @@ pub(crate) fn end<E: Engine, B: Board>(stage: Stage<E, B>) -> Result<String, Out
         object,
         table,
         hand,
+        words,
+        other,
         mut out,
         ..
     } = stage;
+    if words.is_lost() || other.is_lost() {
+        out.lose();
+    }
     tell_frames(&hand.known, object.close(), &mut out);
     if let Some(table) = table {
         out.say("on the table ");

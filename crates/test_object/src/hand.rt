@@ -1,9 +1,9 @@
 //! The frames that are out of all rings, of both engines.
 use crate::bytes;
-use crate::reply::{Asked, words_of};
+use crate::reply::{Asked, tell};
+use crate::told::Told;
 use crate::words::{Body, Move, Thing};
 use std::alloc::Global;
-use std::string::String;
 use xsk_model::{Call, Reply};
 use xsk_umem::{Batch, Frame, Item, OutOfMemory};
 
@@ -23,12 +23,12 @@ pub(crate) struct Known {
 }
 
 impl Known {
-    pub(crate) fn new(alloc: Global, chunk: u32, frames: u32) -> Result<Known, OutOfMemory> {
-        Ok(Known {
-            chunk,
-            seeds: vec![in alloc; 0u32; frames as usize]?,
-            written: 0,
-        })
+    fn open(&mut self, chunk: u32, frames: u32) -> Result<(), OutOfMemory> {
+        self.chunk = chunk;
+        for _ in 0..frames {
+            self.seeds.push(0)?;
+        }
+        Ok(())
     }
 
     /// The frame in which an address lies.
@@ -87,12 +87,11 @@ fn written(frame: Frame, seed: u32) -> Frame {
 }
 
 impl Store {
-    fn new(alloc: Global, frames: u32) -> Result<Store, OutOfMemory> {
-        let mut places = Vec::with_capacity(alloc, frames as usize)?;
+    fn open(&mut self, frames: u32) -> Result<(), OutOfMemory> {
         for _ in 0..frames {
-            places.push(None)?;
+            self.frames.push(None)?;
         }
-        Ok(Store { frames: places })
+        Ok(())
     }
 
     fn take(&mut self, number: u32) -> Option<Frame> {
@@ -111,7 +110,7 @@ impl Store {
         }
     }
 
-    fn batch(&mut self, alloc: Global, known: &Known, things: &[Thing]) -> Batch {
+    fn batch(&mut self, known: &Known, things: &[Thing]) -> Batch {
         let mut batch = Batch::new();
         for thing in things {
             let frame = match known.frame_of(*thing) {
@@ -129,16 +128,10 @@ impl Store {
     }
 
     /// A call with frames from here.
-    pub(crate) fn call(
-        &mut self,
-        alloc: Global,
-        known: &Known,
-        made: Move,
-        things: &[Thing],
-    ) -> Call {
+    pub(crate) fn call(&mut self, known: &Known, made: Move, things: &[Thing]) -> Call {
         match made {
             Move::Reserve(ring, count) => Call::Reserve(ring, count),
-            Move::Submit(ring) => Call::Submit(ring, self.batch(alloc, known, things)),
+            Move::Submit(ring) => Call::Submit(ring, self.batch(known, things)),
             Move::Peek(ring, count) => Call::Peek(ring, count),
             Move::Release(ring, count) => Call::Release(ring, count),
             Move::Swap(mark, value) => Call::Swap(mark, value),
@@ -189,15 +182,11 @@ impl Store {
         }
     }
 
-    /// The words of what came of a call, whose frames are kept, and whether these are the right ones with the right bytes.
-    pub(crate) fn settle(
-        &mut self,
-        alloc: Global,
-        known: &Known,
-        asked: Asked,
-    ) -> Result<(String, bool), OutOfMemory> {
-        let words = words_of(alloc, &asked)?;
-        Ok((words, self.put_all(known, asked)))
+    /// Puts what came of a call in place of the words, keeps its frames, and tells whether these are the right ones with the right bytes.
+    pub(crate) fn settle(&mut self, known: &Known, asked: Asked, words: &mut Told) -> bool {
+        words.clear();
+        tell(&asked, words);
+        self.put_all(known, asked)
     }
 }
 
@@ -212,12 +201,28 @@ pub(crate) struct Hand {
 }
 
 impl Hand {
-    pub(crate) fn new(alloc: Global, chunk: u32, frames: u32) -> Result<Hand, OutOfMemory> {
-        Ok(Hand {
-            known: Known::new(alloc, chunk, frames)?,
-            mine: Store::new(alloc, frames)?,
-            theirs: Store::new(alloc, frames)?,
-        })
+    /// A hand that has no room for frames.
+    pub(crate) fn new(alloc: Global) -> Hand {
+        Hand {
+            known: Known {
+                chunk: 0,
+                seeds: Vec::new(alloc),
+                written: 0,
+            },
+            mine: Store {
+                frames: Vec::new(alloc),
+            },
+            theirs: Store {
+                frames: Vec::new(alloc),
+            },
+        }
+    }
+
+    /// Makes room for so many frames, with a chunk each.
+    pub(crate) fn open(&mut self, chunk: u32, frames: u32) -> Result<(), OutOfMemory> {
+        self.known.open(chunk, frames)?;
+        self.mine.open(frames)?;
+        self.theirs.open(frames)
     }
 
     /// Writes other bytes into the frames of these items.

@@ -7,7 +7,7 @@ ghost use Rattle.xsk_model.specs.Config.{IsLawful};
 ghost use Rattle.xsk_model.specs.Opening.{AreFrames};
 
 use crate::layouts::{change, set_up};
-use crate::line::{Fault, Line};
+use crate::line::{Fault, Line, cut};
 use crate::told::Told;
 use std::alloc::{AllocError, Global};
 use xsk_audit::{Verdicts, audit};
@@ -40,12 +40,13 @@ pub fn tell(alloc: Global, journal: &str) -> Result<String, AllocError> {
         Some((head, lines)) => tell_named(alloc, head, Some(lines), &mut told),
         None => tell_named(alloc, journal, None, &mut told),
     }
+    told.say("\n");
     told.into_text()
 }
 
 fn tell_named(alloc: Global, head: &str, lines: Option<&str>, told: &mut Told) {
-    let (name, options) = head.split_once(":").unwrap_or((head, ""));
-    let options = options.strip_prefix(" ").unwrap_or(options);
+    let (name, rest) = cut(head, ":");
+    let (_, options) = cut(rest, " ");
     told.say(name);
     told.say(": ");
     match verdict_of(alloc, options, lines) {

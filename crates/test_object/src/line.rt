@@ -57,6 +57,17 @@ pub fn number_in(word: &str) -> Result<u32, Fault> {
     Ok(number as u32)
 }
 
+/// What stands before the first sign of a kind, and what behind it. Where there is none, all stands before it.
+pub fn cut<'a>(text: &'a str, sign: &str) -> (&'a str, &'a str) {
+    text.split_once(sign).unwrap_or((text, ""))
+}
+
+/// Whether a line of a setup or a script says something. `#` begins a remark.
+pub fn says(line: &str) -> bool {
+    let (word, _) = cut(line, " ");
+    !word.is_empty() && word != "#"
+}
+
 /// A line whose words, with a space between, are taken one after the other.
 #[derive(Clone, Copy)]
 pub struct Line<'a> {
@@ -70,7 +81,7 @@ impl<'a> Line<'a> {
 
     /// The next word, if there is one.
     pub fn next(&mut self) -> Option<&'a str> {
-        let (word, rest) = self.rest.split_once(" ").unwrap_or((self.rest, ""));
+        let (word, rest) = cut(self.rest, " ");
         self.rest = rest;
         if word.is_empty() { None } else { Some(word) }
     }

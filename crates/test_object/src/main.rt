@@ -24,6 +24,7 @@ mod layouts;
 mod limits;
 mod line;
 mod locks;
+mod makers;
 mod noted;
 mod object;
 mod packed;
@@ -43,30 +44,24 @@ mod told;
 mod words;
 mod written;
 
+use crate::line::cut;
+use std::alloc::AllocError;
 use std::io::{self, Print};
 
 fn main(rt: HostRuntime) -> io::Result<()> {
     let text = io::read_to_string(rt.alloc(), rt.reader())?;
-    match text.split_once("\n# scripts\n") {
-        Some((values, scripts)) => {
-            print_values(&rt, values)?;
-            print_scripts(&rt, scripts)
-        }
-        None => print_values(&rt, text.as_str()),
-    }
+    print_all(&rt, text.as_str())
 }
 
-/// Prints what comes of each case, and what the audit of each journal finds.
-fn print_values<R: Print + AllocGlobal>(rt: &R, text: &str) -> io::Result<()> {
-    match text.split_once("\n# ") {
-        Some((cases, journals)) => {
-            print_cases(rt, cases)?;
-            print_journals(rt, journals)
-        }
-        None => print_cases(rt, text),
-    }
+fn print_all<R: Print + AllocGlobal>(rt: &R, text: &str) -> io::Result<()> {
+    let (values, scripts) = cut(text, "\n# scripts\n");
+    let (cases, journals) = cut(values, "\n# ");
+    print_cases(rt, cases)?;
+    print_journals(rt, journals)?;
+    print_scripts(rt, scripts)
 }
 
+/// Prints what comes of each case.
 fn print_cases<R: Print + AllocGlobal>(rt: &R, cases: &str) -> io::Result<()> {
     for case in cases.split("\n\n") {
         print_case(rt, case)?;
@@ -79,36 +74,46 @@ fn print_case<R: Print + AllocGlobal>(rt: &R, case: &str) -> io::Result<()> {
     if case.is_empty() {
         return Ok(());
     }
-    let told = case::tell(rt.alloc(), case)?;
-    rt.println(told.as_str())
+    print_told(rt, case::tell(rt.alloc(), case))
 }
 
+/// Prints what the audit of each journal finds.
 fn print_journals<R: Print + AllocGlobal>(rt: &R, journals: &str) -> io::Result<()> {
-    let journals = journals.strip_suffix("\n").unwrap_or(journals);
     for journal in journals.split("\n# ") {
         print_journal(rt, journal)?;
     }
     Ok(())
 }
 
-/// Prints what the audit of a journal finds.
+/// Prints what the audit of a journal finds. An empty text is none.
 fn print_journal<R: Print + AllocGlobal>(rt: &R, journal: &str) -> io::Result<()> {
-    let told = journals::tell(rt.alloc(), journal)?;
-    rt.println(told.as_str())
+    if journal.is_empty() {
+        return Ok(());
+    }
+    print_told(rt, journals::tell(rt.alloc(), journal))
 }
 
 /// Prints what comes of each script.
-fn print_scripts<R: Print + AllocGlobal>(rt: &R, text: &str) -> io::Result<()> {
-    let alloc = rt.alloc();
-    let mut blocks = Vec::new(alloc);
-    for line in text.split("\n") {
-        blocks::take(alloc, &mut blocks, line)?;
-    }
-    for block in &blocks {
-        match blocks::told(alloc, blocks.as_slice(), block) {
-            Ok(text) => rt.print(text.as_str())?,
-            Err(_) => rt.println("want of memory")?,
-        }
+fn print_scripts<R: Print + AllocGlobal>(rt: &R, scripts: &str) -> io::Result<()> {
+    let (_, first) = cut(scripts, "\nscript ");
+    for script in first.split("\nscript ") {
+        print_script(rt, scripts, script)?;
     }
     Ok(())
+}
+
+/// Prints what comes of a script. An empty text is none.
+fn print_script<R: Print + AllocGlobal>(rt: &R, scripts: &str, script: &str) -> io::Result<()> {
+    if script.is_empty() {
+        return Ok(());
+    }
+    print_told(rt, blocks::told(rt.alloc(), scripts, script))
+}
+
+/// Prints a text, if there was memory for it.
+fn print_told<R: Print>(rt: &R, told: Result<String, AllocError>) -> io::Result<()> {
+    match told {
+        Ok(text) => rt.print(text.as_str()),
+        Err(_) => rt.print("want of memory\n"),
+    }
 }

@@ -1,13 +1,16 @@
 //! A table with two notes that were taken on it.
+use crate::line::Fault;
+use crate::makers::{Maker, Makers};
 use crate::reply::Asked;
 use crate::table::Table;
+use std::alloc::Global;
 use std::marker::Model;
-use xsk_model::Call;
+use xsk_model::{Call, Config};
 use xsk_table::Note;
 use xsk_umem::Frames;
 
 /// A table on which calls are made, with two notes.
-pub(crate) trait Board: Drop {
+pub(crate) trait Board: Maker {
     /// Makes a call where it is legal, and tells the looks at the other side's count that it took.
     fn ask(&mut self, who: u32, call: Call, anew: bool) -> (Asked, u32);
 
@@ -46,12 +49,19 @@ impl Model for Noted {
     ghost invariant = { λ n. IfSome n.early (λ note. note.table ≡ n.table.table) × IfSome n.late (λ note. note.table ≡ n.table.table) };
 }
 
-impl Noted {
-    pub(crate) fn new(table: Table) -> Noted {
-        Noted {
-            table,
-            early: None,
-            late: None,
+impl Maker for Noted {
+    fn open(alloc: Global, config: Config, frames: Frames, makers: Makers) -> Result<Noted, Fault> {
+        let first = match makers {
+            Makers::Both(first) => first,
+            _ => 0,
+        };
+        match Table::open(alloc, config, frames, first) {
+            Some(table) => Ok(Noted {
+                table,
+                early: None,
+                late: None,
+            }),
+            None => Err(Fault::NotLegal),
         }
     }
 }

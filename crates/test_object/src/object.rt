@@ -1,4 +1,6 @@
 //! The object on one thread, as a script has it.
+use crate::line::Fault;
+use crate::makers::{Maker, Makers};
 use crate::reply::Asked;
 use std::alloc::Global;
 use xsk_log::{LineBuffer, Lines, Log};
@@ -7,7 +9,7 @@ use xsk_plain::{Checked, Plain, payload_room};
 use xsk_umem::{Frames, OutOfMemory};
 
 /// An engine on one thread, on which the calls of a script are made.
-pub(crate) trait Engine: Drop {
+pub(crate) trait Engine: Maker {
     fn config(&self) -> &Config;
 
     fn log(&self) -> &Log;
@@ -49,6 +51,19 @@ fn ask_why(checked: &mut Checked, who: u32, call: Call) -> Result<Asked, OutOfMe
     }
 }
 
+impl Maker for Judge {
+    fn open(alloc: Global, config: Config, frames: Frames, makers: Makers) -> Result<Judge, Fault> {
+        let asks_why = match makers {
+            Makers::Why => true,
+            _ => false,
+        };
+        match Checked::open(alloc, config, frames) {
+            Ok(checked) => Ok(Judge { checked, asks_why }),
+            Err(_) => Err(Fault::NotLegal),
+        }
+    }
+}
+
 impl Engine for Judge {
     fn config(&self) -> &Config {
         self.checked.config()
@@ -79,6 +94,20 @@ impl Engine for Judge {
     fn close(self) -> Frames {
         let Judge { checked, .. } = self;
         checked.close()
+    }
+}
+
+impl Maker for Plain {
+    fn open(
+        alloc: Global,
+        config: Config,
+        frames: Frames,
+        _makers: Makers,
+    ) -> Result<Plain, Fault> {
+        match Plain::open(alloc, config, frames) {
+            Ok(plain) => Ok(plain),
+            Err(_) => Err(Fault::NotLegal),
+        }
     }
 }
 

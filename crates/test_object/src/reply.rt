@@ -1,7 +1,5 @@
 //! What comes of a call, in words.
 use crate::told::Told;
-use std::alloc::{AllocError, Global};
-use std::string::String;
 use xsk_legal::Illegal;
 use xsk_model::{Call, Reply};
 use xsk_umem::Batch;
@@ -20,14 +18,12 @@ pub(crate) fn is_made(asked: &Asked) -> bool {
     }
 }
 
-/// What came of a call: a reply in the words of a journal's line, or that it isn't legal.
-pub(crate) fn words_of(alloc: Global, asked: &Asked) -> Result<String, AllocError> {
-    let mut told = Told::new(alloc);
+/// Tells what came of a call: a reply in the words of a journal's line, or that it isn't legal.
+pub(crate) fn tell(asked: &Asked, told: &mut Told) {
     match asked {
-        Asked::Made(reply) => tell_reply(reply, &mut told),
-        Asked::Refused(_, why) => tell_refusal(why, &mut told),
+        Asked::Made(reply) => tell_reply(reply, told),
+        Asked::Refused(_, why) => tell_refusal(why, told),
     }
-    told.into_text()
 }
 
 fn tell_refusal(why: &Option<Illegal>, told: &mut Told) {

@@ -1,111 +1,77 @@
 //! A run of a script from one starting count.
 use crate::drawn::drawn;
 use crate::ending;
-use crate::hand::Hand;
-use crate::line::{Fault, long_in};
+use crate::line::{Fault, long_in, says};
+use crate::makers::{Maker, Makers};
 use crate::noted::{Board, Noted};
 use crate::object::{Engine, Judge};
 use crate::setup::read_setup;
 use crate::stage::Stage;
 use crate::step::{Plan, Step, read};
-use crate::table::Table;
-use crate::told::Told;
 use crate::words::{Move, Who};
-use std::alloc::Global;
+use std::alloc::{AllocError, Global};
 use std::string::String;
 use xsk_model::Mark;
-use xsk_plain::{Checked, Plain};
+use xsk_plain::Plain;
 use xsk_umem::OutOfMemory;
 
-/// What makes the calls of a script.
-#[derive(Clone, Copy)]
-pub(crate) enum Makers {
-    /// The object that tells which calls are legal, and a table whose counts start at a number.
-    Both(u32),
-    /// This object alone.
-    Checked,
-    /// The same, asked why a call isn't legal.
-    Why,
-    /// The object alone that makes each call that can be made.
-    Plain,
+/// What is opened over a configuration and its frames.
+fn opened<M: Maker>(alloc: Global, setup: &str, makers: Makers) -> Result<M, Fault> {
+    let (config, frames) = read_setup(alloc, setup)?;
+    M::open(alloc, config, frames, makers)
 }
 
-/// The object that tells which calls are legal, of a setup.
-fn judge_of(alloc: Global, lines: &[&str], asks_why: bool) -> Result<Judge, Fault> {
-    let (config, frames) = read_setup(alloc, lines)?;
-    match Checked::open(alloc, config, frames) {
-        Ok(checked) => Ok(Judge { checked, asks_why }),
-        Err(_) => Err(Fault::NotLegal),
-    }
-}
-
-/// The object that makes each call that can be made, of a setup.
-fn plain_of(alloc: Global, lines: &[&str]) -> Result<Plain, Fault> {
-    let (config, frames) = read_setup(alloc, lines)?;
-    match Plain::open(alloc, config, frames) {
-        Ok(plain) => Ok(plain),
-        Err(_) => Err(Fault::NotLegal),
-    }
-}
-
-/// The table of a setup.
-fn table_of(alloc: Global, lines: &[&str], first: u32) -> Result<Noted, Fault> {
-    let (config, frames) = read_setup(alloc, lines)?;
-    match Table::open(alloc, config, frames, first) {
-        Some(table) => Ok(Noted::new(table)),
-        None => Err(Fault::NotLegal),
-    }
-}
-
-/// What is printed of a run, if the setup is one.
+/// What is printed of a run.
 pub(crate) fn run(
     alloc: Global,
-    setup: &[&str],
-    script: &[&str],
+    setup: &str,
+    script: &str,
     makers: Makers,
-) -> Result<String, Fault> {
-    match makers {
-        Makers::Both(first) => {
-            let table = table_of(alloc, setup, first)?;
-            judged(alloc, setup, script, false, Some(table))
-        }
-        Makers::Checked => judged(alloc, setup, script, false, None::<Noted>),
-        Makers::Why => judged(alloc, setup, script, true, None::<Noted>),
-        Makers::Plain => played(alloc, plain_of(alloc, setup)?, None::<Noted>, script),
+) -> Result<String, AllocError> {
+    let outcome = match makers {
+        Makers::Plain => played::<Plain, Noted>(alloc, setup, script, makers),
+        _ => played::<Judge, Noted>(alloc, setup, script, makers),
+    };
+    match outcome {
+        Ok(text) => Ok(text),
+        Err(Fault::OutOfMemory) => Err(AllocError),
+        Err(_) => String::from_str(alloc, "no configuration\n"),
     }
 }
 
-fn judged<B: Board>(
-    alloc: Global,
-    setup: &[&str],
-    script: &[&str],
-    asks_why: bool,
-    table: Option<B>,
-) -> Result<String, Fault> {
-    let judge = judge_of(alloc, setup, asks_why)?;
-    played(alloc, judge, table, script)
-}
-
-/// What is printed of a script that is played on these engines.
+/// What is printed of a script that is played on an object, and on a table if there is to be one, if the setup is one.
 fn played<E: Engine, B: Board>(
     alloc: Global,
-    object: E,
-    table: Option<B>,
-    script: &[&str],
+    setup: &str,
+    script: &str,
+    makers: Makers,
 ) -> Result<String, Fault> {
-    let geometry = object.config().geometry();
-    let hand = Hand::new(alloc, geometry.chunk(), geometry.frames())?;
-    let mut stage = Stage::new(alloc, object, table, hand);
+    let object = opened::<E>(alloc, setup, makers)?;
+    let mut stage = Stage::<E, B>::new(alloc, object);
+    begin(&mut stage, setup, makers)?;
     play_all(&mut stage, script)?;
     Ok(ending::end(stage)?)
 }
 
-fn play_all<E: Engine, B: Board>(
+/// Opens the table, if there is to be one, and makes room for the frames.
+fn begin<E: Engine, B: Board>(
     stage: &mut Stage<E, B>,
-    script: &[&str],
-) -> Result<(), OutOfMemory> {
-    for line in script {
-        play(stage, line)?;
+    setup: &str,
+    makers: Makers,
+) -> Result<(), Fault> {
+    if let Makers::Both(_) = makers {
+        stage.table = Some(opened::<B>(stage.alloc, setup, makers)?);
+    }
+    let geometry = stage.object.config().geometry();
+    let (chunk, frames) = (geometry.chunk(), geometry.frames());
+    Ok(stage.hand.open(chunk, frames)?)
+}
+
+fn play_all<E: Engine, B: Board>(stage: &mut Stage<E, B>, script: &str) -> Result<(), OutOfMemory> {
+    for line in script.split("\n") {
+        if says(line) {
+            play(stage, line)?;
+        }
     }
     Ok(())
 }
@@ -134,7 +100,7 @@ fn make<E: Engine, B: Board>(
         Step::Meet(who, late) => meet(stage, line, *who, *late),
         Step::Count(who, mark, most) => return count(stage, line, *who, *mark, *most),
         Step::Drawn(seed, calls) => return drawn(stage, line, *seed, *calls),
-        Step::Passes => return passes(stage, line),
+        Step::Passes => passes(stage, line),
     }
     Ok(())
 }
@@ -149,7 +115,7 @@ fn call<E: Engine, B: Board>(
         return Ok(());
     };
     let made = stage.make(who, plan.made, plan.things.as_slice(), plan.anew)?;
-    stage.tell(line, who, &made)
+    stage.tell(line, who, made)
 }
 
 fn note<E: Engine, B: Board>(stage: &mut Stage<E, B>, line: &str, who: Who, late: bool) {
@@ -205,15 +171,16 @@ fn count_one<E: Engine, B: Board>(
     is_last: bool,
 ) -> Result<bool, OutOfMemory> {
     let made = stage.make(who, swap, &[], false)?;
-    let is_next = is_behind(made.words.as_str(), value);
-    if !is_next {
-        stage.say(line, made.words.as_str());
-    } else if is_last {
-        stage.tell(line, who, &made)?;
+    if !is_behind(stage.words.text(), value) {
+        stage.say_words(line);
+        return Ok(false);
+    }
+    if is_last {
+        stage.tell(line, who, made)?;
     } else {
         stage.keep(who)?;
     }
-    Ok(is_next)
+    Ok(true)
 }
 
 /// Whether words are the number before a value.
@@ -225,7 +192,7 @@ fn is_behind(words: &str, value: u64) -> bool {
 }
 
 /// Tells whether each caller has one pass, with its number, and no other has one.
-fn passes<E: Engine, B: Board>(stage: &mut Stage<E, B>, line: &str) -> Result<(), OutOfMemory> {
+fn passes<E: Engine, B: Board>(stage: &mut Stage<E, B>, line: &str) {
     let callers = stage.object.config().callers();
     let mut right = false;
     if let Some(table) = &stage.table {
@@ -234,10 +201,10 @@ fn passes<E: Engine, B: Board>(stage: &mut Stage<E, B>, line: &str) -> Result<()
             right = right && table.caller(who) == Some(who);
         }
     }
-    let mut told = Told::new(stage.alloc);
-    told.number(callers);
-    told.say(if right { " once each" } else { " wrong" });
-    let text = told.into_text()?;
-    stage.say(line, text.as_str());
-    Ok(())
+    stage.out.say(line);
+    stage.out.say(": ");
+    stage.out.number(callers);
+    stage
+        .out
+        .say(if right { " once each\n" } else { " wrong\n" });
 }

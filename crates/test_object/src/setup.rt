@@ -3,7 +3,7 @@ ghost use Rattle.std.specs.Prelude.{◌≡◌, IfOk};
 ghost use Rattle.xsk_model.specs.Config.{IsLawful};
 ghost use Rattle.xsk_model.specs.Opening.{AreFrames};
 
-use crate::line::{Fault, Line, long_in, number_in};
+use crate::line::{Fault, Line, long_in, number_in, says};
 use std::alloc::Global;
 use xsk_model::{Config, PairInfo, SocketInfo, are_parts};
 use xsk_umem::{Frames, Geometry, Umem};
@@ -214,19 +214,22 @@ impl Setup {
     }
 }
 
-/// What the lines of a setup say, if each can be read.
-fn setup_of(alloc: Global, lines: &[&str]) -> Result<Setup, Fault> {
-    let mut setup = Setup::new(alloc);
-    for line in lines {
-        setup.take(alloc, line)?;
+/// Takes lines in.
+fn take_all(setup: &mut Setup, alloc: Global, lines: &str) -> Result<(), Fault> {
+    for line in lines.split("\n") {
+        if says(line) {
+            setup.take(alloc, line)?;
+        }
     }
-    Ok(setup)
+    Ok(())
 }
 
 /// The configuration with its frames that the lines of a setup say.
-pub(crate) fn read_setup(alloc: Global, lines: &[&str]) -> Result<(Config, Frames), Fault>
+pub(crate) fn read_setup(alloc: Global, lines: &str) -> Result<(Config, Frames), Fault>
     ensures lawful { IfOk result (λ made. IsLawful made.0) }
     ensures frames { IfOk result (λ made. AreFrames made.0.geometry made.1.items) }
 {
-    setup_of(alloc, lines)?.make(alloc)
+    let mut setup = Setup::new(alloc);
+    take_all(&mut setup, alloc, lines)?;
+    setup.make(alloc)
 }

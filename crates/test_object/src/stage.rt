@@ -1,5 +1,6 @@
 //! Both engines with the frames that are out of their rings, and what is told of their calls.
 use crate::hand::Hand;
+use crate::line::cut;
 use crate::noted::Board;
 use crate::object::Engine;
 use crate::reply::is_made;
@@ -7,15 +8,13 @@ use crate::told::Told;
 use crate::words::{Move, Thing, Who};
 use std::alloc::Global;
 use std::str;
-use std::string::String;
 use xsk_log::LineBuffer;
 use xsk_model::Ring;
 use xsk_umem::OutOfMemory;
 
-/// What came of a call that both engines made.
-#[derive(Drop)]
+/// Whether a call was made by both engines, and the looks that it took on the table.
+#[derive(Clone, Copy)]
 pub(crate) struct Made {
-    pub(crate) words: String,
     pub(crate) legal: bool,
     pub(crate) looks: u32,
 }
@@ -27,6 +26,9 @@ pub(crate) struct Stage<E, B> {
     /// Where the object makes calls that aren't legal, there is no table.
     pub(crate) table: Option<B>,
     pub(crate) hand: Hand,
+    /// What came of the last call, on the object and on the table.
+    pub(crate) words: Told,
+    pub(crate) other: Told,
     /// All that is printed.
     pub(crate) out: Told,
     /// The lines of the log and their callers.
@@ -36,12 +38,14 @@ pub(crate) struct Stage<E, B> {
 }
 
 impl<E: Engine, B: Board> Stage<E, B> {
-    pub(crate) fn new(alloc: Global, object: E, table: Option<B>, hand: Hand) -> Stage<E, B> {
+    pub(crate) fn new(alloc: Global, object: E) -> Stage<E, B> {
         Stage {
             alloc,
             object,
-            table,
-            hand,
+            table: None,
+            hand: Hand::new(alloc),
+            words: Told::new(alloc),
+            other: Told::new(alloc),
             out: Told::new(alloc),
             lines: Vec::new(alloc),
             callers: Vec::new(alloc),
@@ -49,16 +53,14 @@ impl<E: Engine, B: Board> Stage<E, B> {
         }
     }
 
-    pub(crate) fn print(&mut self, text: &str) {
-        self.out.say(text);
-        self.out.say("\n");
-    }
-
     /// Prints a line of the script and what is told of it.
     pub(crate) fn say(&mut self, line: &str, what: &str) {
-        self.out.say(line);
-        self.out.say(": ");
-        self.print(what);
+        say(&mut self.out, line, what);
+    }
+
+    /// Prints a line of the script and what came of the last call.
+    pub(crate) fn say_words(&mut self, line: &str) {
+        say(&mut self.out, line, self.words.text());
     }
 
     /// The number of a caller.
@@ -70,49 +72,31 @@ impl<E: Engine, B: Board> Stage<E, B> {
         }
     }
 
-    /// Makes a call on the object, and gives the words of what came of it, and whether it was made.
-    fn ask_object(
-        &mut self,
-        who: u32,
-        made: Move,
-        things: &[Thing],
-    ) -> Result<(String, bool), OutOfMemory> {
-        let call = self
-            .hand
-            .mine
-            .call(self.alloc, &self.hand.known, made, things);
+    /// Makes a call on the object, and tells whether it was made.
+    fn ask_object(&mut self, who: u32, made: Move, things: &[Thing]) -> Result<bool, OutOfMemory> {
+        let call = self.hand.mine.call(&self.hand.known, made, things);
         let asked = self.object.ask(who, call)?;
         let legal = is_made(&asked);
-        let (words, fine) = self.hand.mine.settle(self.alloc, &self.hand.known, asked)?;
-        if !fine {
-            self.print("  other frames or bytes");
+        let hand = &mut self.hand;
+        if !hand.mine.settle(&hand.known, asked, &mut self.words) {
+            self.out.say("  other frames or bytes\n");
         }
-        Ok((words, legal))
+        Ok(legal)
     }
 
     /// Makes it on the table, if there is one, and gives the looks that it took. It is printed where other words came of it.
-    fn ask_table(
-        &mut self,
-        who: u32,
-        made: Move,
-        things: &[Thing],
-        anew: bool,
-        words: &str,
-    ) -> Result<u32, OutOfMemory> {
+    fn ask_table(&mut self, who: u32, made: Move, things: &[Thing], anew: bool) -> u32 {
         let Some(table) = &mut self.table else {
-            return Ok(0);
+            return 0;
         };
-        let call = self
-            .hand
-            .theirs
-            .call(self.alloc, &self.hand.known, made, things);
+        let hand = &mut self.hand;
+        let call = hand.theirs.call(&hand.known, made, things);
         let (asked, looks) = table.ask(who, call, anew);
-        let (other, fine) = self
-            .hand
-            .theirs
-            .settle(self.alloc, &self.hand.known, asked)?;
-        self.compare(words, other.as_str(), fine);
-        Ok(looks)
+        if !hand.theirs.settle(&hand.known, asked, &mut self.other) {
+            self.out.say("  other frames or bytes on the table\n");
+        }
+        compare(self.words.text(), self.other.text(), &mut self.out);
+        looks
     }
 
     /// Makes a call on both engines. It is printed where they differ, or a frame isn't the right one.
@@ -126,34 +110,20 @@ impl<E: Engine, B: Board> Stage<E, B> {
         if let Move::Submit(Ring::Rx(_)) = made {
             self.hand.write(things);
         }
-        let (words, legal) = self.ask_object(who, made, things)?;
-        let looks = self.ask_table(who, made, things, anew, words.as_str())?;
-        Ok(Made {
-            words,
-            legal,
-            looks,
-        })
-    }
-
-    /// Prints where other words came of a call on the table, or a frame isn't the right one.
-    fn compare(&mut self, words: &str, other: &str, fine: bool) {
-        if !fine {
-            self.print("  other frames or bytes on the table");
-        }
-        if other != words {
-            self.print("  on the table:");
-            self.print(other);
-        }
+        let legal = self.ask_object(who, made, things)?;
+        let looks = self.ask_table(who, made, things, anew);
+        Ok(Made { legal, looks })
     }
 
     /// Prints what came of a call, by the log's line of it.
-    pub(crate) fn tell(&mut self, line: &str, who: u32, made: &Made) -> Result<(), OutOfMemory> {
+    pub(crate) fn tell(&mut self, line: &str, who: u32, made: Made) -> Result<(), OutOfMemory> {
         if !made.legal {
-            self.say(line, made.words.as_str());
+            self.say_words(line);
             return Ok(());
         }
         self.keep(who)?;
-        tell_made(last_line(&self.buffer), made, &mut self.out);
+        let last = last_line(&self.buffer);
+        tell_made(last, self.words.text(), made.looks, &mut self.out);
         Ok(())
     }
 
@@ -165,11 +135,27 @@ impl<E: Engine, B: Board> Stage<E, B> {
     }
 }
 
-/// Tells the log's line of a call.
-fn tell_made(line: &str, made: &Made, out: &mut Told) {
+fn say(out: &mut Told, line: &str, what: &str) {
     out.say(line);
-    out.say(if made.looks == 0 { "\n" } else { " (1 look)\n" });
-    if made.looks > 1 || !line.ends_with(made.words.as_str()) {
+    out.say(": ");
+    out.say(what);
+    out.say("\n");
+}
+
+/// Prints where other words came of a call on the table.
+fn compare(words: &str, other: &str, out: &mut Told) {
+    if other != words {
+        out.say("  on the table:\n");
+        out.say(other);
+        out.say("\n");
+    }
+}
+
+/// Tells the log's line of a call, with a remark where it hasn't these words or more than one look.
+fn tell_made(line: &str, words: &str, looks: u32, out: &mut Told) {
+    out.say(line);
+    out.say(if looks == 0 { "\n" } else { " (1 look)\n" });
+    if looks > 1 || !line.ends_with(words) {
         out.say("  another reply or more looks\n");
     }
 }
@@ -177,7 +163,10 @@ fn tell_made(line: &str, made: &Made, out: &mut Told) {
 /// The line that the buffer has, without its line feed.
 fn last_line(buffer: &LineBuffer) -> &str {
     match str::from_utf8(buffer.bytes()) {
-        Ok(line) => line.strip_suffix("\n").unwrap_or(line),
+        Ok(line) => {
+            let (own, _) = cut(line, "\n");
+            own
+        }
         Err(_) => "no text",
     }
 }

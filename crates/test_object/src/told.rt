@@ -25,6 +25,24 @@ impl Told {
         Ok(self.text)
     }
 
+    pub fn text(&self) -> &str {
+        self.text.as_str()
+    }
+
+    /// Takes the text back.
+    pub fn clear(&mut self) {
+        self.text.clear();
+    }
+
+    pub fn is_lost(&self) -> bool {
+        self.is_lost
+    }
+
+    /// Tells that memory failed for what was to be told.
+    pub fn lose(&mut self) {
+        self.is_lost = true;
+    }
+
     pub fn say(&mut self, text: &str) {
         if self.text.push_str(text).is_err() {
             self.is_lost = true;
