@@ -2,7 +2,6 @@
 
 use crate::lanes::Spread;
 use crate::text::text_of;
-use anyhow::Result;
 use std::alloc::{AllocError, Global};
 use xsk_io::Fail;
 
@@ -45,7 +44,7 @@ pub(crate) struct Named {
 }
 
 /// Which workers a gate holds.
-#[derive(Clone, Copy, PartialEq, Eq)]
+#[derive(Clone, Copy)]
 pub(crate) enum Holds {
     NoOne,
     /// These two workers until both have come.
@@ -128,7 +127,12 @@ impl Case {
     }
 
     /// Keeps what an instruction says. False where it says nothing.
-    pub(crate) fn set(&mut self, alloc: Global, name: &str, value: &str) -> Result<bool> {
+    pub(crate) fn set(
+        &mut self,
+        alloc: Global,
+        name: &str,
+        value: &str,
+    ) -> Result<bool, AllocError> {
         match name {
             "text" => self.add_text(alloc, value),
             "inputs" => self.set_inputs(alloc, value),
@@ -147,7 +151,7 @@ impl Case {
         }
     }
 
-    fn add_text(&mut self, alloc: Global, value: &str) -> Result<bool> {
+    fn add_text(&mut self, alloc: Global, value: &str) -> Result<bool, AllocError> {
         let (name, tokens) = value.split_once(' ').unwrap_or((value, "zeros:0"));
         let Some(bytes) = text_of(alloc, tokens)? else {
             return Ok(false);
@@ -157,7 +161,7 @@ impl Case {
         Ok(true)
     }
 
-    fn set_inputs(&mut self, alloc: Global, names: &str) -> Result<bool> {
+    fn set_inputs(&mut self, alloc: Global, names: &str) -> Result<bool, AllocError> {
         self.inputs = Vec::new(alloc);
         for name in names.split(' ') {
             if self.text(name).is_none() {
@@ -168,7 +172,7 @@ impl Case {
         Ok(true)
     }
 
-    fn add_fail(&mut self, value: &str) -> Result<bool> {
+    fn add_fail(&mut self, value: &str) -> Result<bool, AllocError> {
         match fail_of(value) {
             Some(fail) => {
                 self.next.fails.push(fail)?;
@@ -192,7 +196,7 @@ impl Case {
     }
 
     fn set_number(&mut self, name: &str, value: &str) -> bool {
-        let Ok(number) = value.parse::<u32>() else {
+        let Some(number) = number_of(value) else {
             return false;
         };
         match name {
@@ -207,7 +211,7 @@ impl Case {
 
 fn fail_of(value: &str) -> Option<Fail> {
     let (kind, number) = value.split_once(' ')?;
-    let number = number.parse::<u32>().ok()?;
+    let number = number_of(number)?;
     match kind {
         "open" => Some(Fail::Open(number)),
         "read" => Some(Fail::Read(number)),
@@ -224,9 +228,13 @@ fn spread_of(value: &str) -> Option<Spread> {
 /// Two numbers, parted by a space.
 fn pair_of(value: &str) -> Option<(u32, u32)> {
     let (first, second) = value.split_once(' ')?;
-    let first = first.parse::<u32>().ok()?;
-    let second = second.parse::<u32>().ok()?;
+    let first = number_of(first)?;
+    let second = number_of(second)?;
     Some((first, second))
+}
+
+fn number_of(word: &str) -> Option<u32> {
+    word.parse::<u32>().ok()
 }
 
 /// A copy of the bytes of each input. None where an input has no text.

@@ -1,7 +1,7 @@
 //! Captures told lane by lane: a lane has the packets of one class of one queue, and between lanes of a queue the order is free.
 
 use crate::text::HEADER;
-use anyhow::Result;
+use std::alloc::AllocError;
 use std::fmt::Write;
 
 /// The queues of each port, and the sockets of each queue.
@@ -40,10 +40,14 @@ pub(crate) fn sum_of(bytes: &[u8]) -> u64 {
 
 /// Tells how many packets each lane of an output has, with the sum of their bytes, or that it isn't in the written form with the
 /// queues one after another.
-pub(crate) fn show_lanes(port: u32, text: &[u8], spread: Spread, told: &mut String) -> Result<()> {
+pub(crate) fn show_lanes(
+    port: u32,
+    text: &[u8],
+    spread: Spread,
+    told: &mut String,
+) -> Result<(), AllocError> {
     if !is_in_order(text, spread) {
-        writeln!(told, "out{port} isn't in order")?;
-        return Ok(());
+        return writeln!(told, "out{port} isn't in order");
     }
     for queue in 0..spread.queues {
         for class in 0..spread.sockets {
@@ -130,7 +134,7 @@ fn lane_of(packet: &[u8], spread: Spread) -> Lane {
 /// The sum of a packet's first bytes, by a modulus.
 fn remainder_of(packet: &[u8], bytes: usize, modulus: u32) -> u32 {
     let mut sum = 0u32;
-    for byte in packet.iter().take(bytes) {
+    for byte in packet.get(..bytes).unwrap_or(packet) {
         sum = sum.saturating_add(u32::from(*byte));
     }
     sum.checked_rem(modulus).unwrap_or(0)

@@ -20,6 +20,7 @@
 #![tactic(auto)]
 
 mod case;
+mod gate;
 mod lanes;
 mod run;
 mod show;
@@ -31,44 +32,73 @@ use crate::run::{run, run_alone, run_over_files};
 use crate::table::{meaning, meaning_by_small_table};
 use anyhow::Result;
 use std::alloc::Global;
+use std::fmt::Write;
 use std::process::ExitCode;
 use std::rt::Files;
 use std::sync::Wait;
 use std::thread::Threads;
 
-/// Does what a line says, and gives what is to be printed.
-fn done<R: Files + Print + Threads + Wait + Sync>(
+/// Does what a line says, and tells what is to be printed.
+fn answer<R: Files + Print + Threads + Wait + Sync>(
     rt: &R,
     alloc: Global,
     case: &mut Case,
     line: &str,
-) -> Result<String> {
+    told: &mut String,
+) -> Result<()> {
     match Instruction::of(line) {
-        Instruction::Nothing => Ok(String::new(alloc)),
-        Instruction::Case(name) => {
-            *case = Case::new(alloc);
-            Ok(format!(in alloc; "\n== {name}\n")?)
-        }
+        Instruction::Nothing => Ok(()),
+        Instruction::Case(name) => begin(alloc, case, name, told),
         Instruction::Run(words) => {
-            let told = run(rt, alloc, case, words)?;
+            run(rt, alloc, case, words, told)?;
             case.forget();
-            Ok(told)
+            Ok(())
         }
         Instruction::Alone(words) => {
-            let told = run_alone(alloc, case, words)?;
+            run_alone(alloc, case, words, told)?;
             case.forget();
-            Ok(told)
+            Ok(())
         }
-        Instruction::Files(words) => run_over_files(rt, alloc, words),
-        Instruction::Meaning(words) => meaning(alloc, case, words),
-        Instruction::Table(words) => meaning_by_small_table(alloc, words),
-        Instruction::Setting(name, value) => {
-            if case.set(alloc, name, value)? {
-                return Ok(String::new(alloc));
-            }
-            Ok(format!(in alloc; "no such instruction: {line}\n")?)
-        }
+        Instruction::Files(words) => run_over_files(rt, alloc, words, told),
+        Instruction::Meaning(words) => meaning(alloc, case, words, told),
+        Instruction::Table(words) => meaning_by_small_table(alloc, words, told),
+        Instruction::Setting(name, value) => set(alloc, case, name, value, line, told),
     }
+}
+
+/// Begins a case.
+fn begin(alloc: Global, case: &mut Case, name: &str, told: &mut String) -> Result<()> {
+    *case = Case::new(alloc);
+    writeln!(told, "\n== {name}")?;
+    Ok(())
+}
+
+/// Keeps what a line says of a case.
+fn set(
+    alloc: Global,
+    case: &mut Case,
+    name: &str,
+    value: &str,
+    line: &str,
+    told: &mut String,
+) -> Result<()> {
+    if !case.set(alloc, name, value)? {
+        writeln!(told, "no such instruction: {line}")?;
+    }
+    Ok(())
+}
+
+/// Does what a line says, and prints what is told of it.
+fn play_line<R: Files + Print + Threads + Wait + Sync>(
+    rt: &R,
+    alloc: Global,
+    case: &mut Case,
+    line: &str,
+) -> Result<()> {
+    let mut told = String::new(alloc);
+    answer(rt, alloc, case, line, &mut told)?;
+    print!(rt; "{told}")?;
+    Ok(())
 }
 
 /// Does what the lines of standard input say.
@@ -77,8 +107,7 @@ fn play<R: Input + Files + Print + AllocGlobal + Threads + Wait + Sync>(rt: &R) 
     let mut case = Case::new(alloc);
     for line in rt.lines(alloc) {
         let line = line?;
-        let told = done(rt, alloc, &mut case, line.as_str())?;
-        print!(rt; "{told}")?;
+        play_line(rt, alloc, &mut case, line.as_str())?;
     }
     Ok(())
 }

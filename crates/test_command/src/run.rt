@@ -5,20 +5,21 @@ ghost use Rattle.xsk_io.specs.Bay.{NoneOpen};
 ghost use Rattle.xsk_io.specs.declared.bay.Stream.{Stream as AStream};
 ghost use Rattle.xsk_io.specs.Memory.{is_open_of};
 
-use crate::case::{Case, Holds, inputs_of};
+use crate::case::{Case, inputs_of};
+use crate::gate::RunGate;
 use crate::show::{Shown, show};
 use anyhow::{Result, anyhow};
-use std::alloc::Global;
+use std::alloc::{AllocError, Global};
 use std::fmt::Write;
 use std::rt::Files;
 use std::sync::Wait;
 use std::thread::Threads;
 use xsk_cli::{Ended, Status, ThreadRun, run_plain};
-use xsk_gate::{Gate, HoldGate, Open, PairGate};
+use xsk_gate::{Gate, Open};
 use xsk_io::{Bay, FileBay, MemoryBay};
 
 /// How a command ended, and what its run on threads shows.
-#[derive(Drop)]
+#[derive(Clone, Copy)]
 struct Told {
     status: Status,
     shown: Shown,
@@ -30,32 +31,41 @@ pub(crate) fn run<R: Threads + Wait + Sync>(
     alloc: Global,
     case: &Case,
     line: &str,
-) -> Result<String> {
+    told: &mut String,
+) -> Result<()> {
+    writeln!(told, "> {line}")?;
     let words = words_of(alloc, line)?;
+    run_words(rt, alloc, case, words.as_slice(), told)
+}
+
+fn run_words<R: Threads + Wait + Sync>(
+    rt: &R,
+    alloc: Global,
+    case: &Case,
+    words: &[String],
+    told: &mut String,
+) -> Result<()> {
     let mut bay = bay_of(alloc, case)?;
-    let mut told = format!(in alloc; "> {line}\n")?;
-    let ended = match case.next.holds {
-        Holds::NoOne => through(rt, alloc, words.as_slice(), &mut bay, &Open),
-        Holds::Pair(first, second) => {
-            run_pair(
-                rt,
-                alloc,
-                words.as_slice(),
-                &mut bay,
-                first,
-                second,
-                &mut told,
-            )?
-        }
-        Holds::One(worker) => {
-            let gate = HoldGate::new(worker);
-            let ended = through(rt, alloc, words.as_slice(), &mut bay, &gate);
-            writeln!(told, "another goes on: {}", gate.pushed())?;
-            ended
-        }
-    };
-    show(alloc, case, ended.status, ended.shown, &bay, &mut told)?;
-    Ok(told)
+    let ended = run_held(rt, alloc, case, words, &mut bay, told)?;
+    show(alloc, case, ended.status, ended.shown, &bay, told)?;
+    Ok(())
+}
+
+/// Runs a command over the gate of a case.
+fn run_held<R: Threads + Wait + Sync, B: Bay>(
+    rt: &R,
+    alloc: Global,
+    case: &Case,
+    words: &[String],
+    bay: &mut B,
+    told: &mut String,
+) -> Result<Told>
+    requires { NoneOpen (B.moment bay.old) }
+{
+    let gate = RunGate::of(case.next.holds)?;
+    let ended = through(rt, alloc, words, bay, &gate);
+    gate.tell(told)?;
+    Ok(ended)
 }
 
 /// Runs the command of a line over files, and tells how it ended. What it reports is printed at once.
@@ -63,37 +73,47 @@ pub(crate) fn run_over_files<R: Files + Print + Threads + Wait + Sync>(
     rt: &R,
     alloc: Global,
     line: &str,
-) -> Result<String> {
+    told: &mut String,
+) -> Result<()> {
     println!(rt; "> {line}")?;
     let words = words_of(alloc, line)?;
+    let status = ended_over_files(rt, alloc, words.as_slice());
+    writeln!(told, "{status:?}, {}", status.exit_status())?;
+    Ok(())
+}
+
+/// How a command ends over files.
+fn ended_over_files<R: Files + Print + Threads + Wait + Sync>(
+    rt: &R,
+    alloc: Global,
+    words: &[String],
+) -> Status {
     let mut bay = FileBay::new(rt);
-    let ended = through(rt, alloc, words.as_slice(), &mut bay, &Open);
-    let status = ended.status;
-    Ok(format!(in alloc; "{status:?}, {}\n", status.exit_status())?)
+    through(rt, alloc, words, &mut bay, &Open).status
 }
 
 /// Runs the command of a line without threads, and tells how it ended and what it left.
-pub(crate) fn run_alone(alloc: Global, case: &Case, line: &str) -> Result<String> {
-    let mut told = format!(in alloc; "> {line}\n")?;
+pub(crate) fn run_alone(alloc: Global, case: &Case, line: &str, told: &mut String) -> Result<()> {
+    writeln!(told, "> {line}")?;
     let words = words_of(alloc, line)?;
-    let (status, bay) = ended_alone(alloc, case, words.as_slice())?;
-    show(alloc, case, status, Shown::Nothing, &bay, &mut told)?;
-    Ok(told)
+    run_words_alone(alloc, case, words.as_slice(), told)
 }
 
-/// How a command ends without threads, and what it leaves.
-pub(crate) fn ended_alone(
-    alloc: Global,
-    case: &Case,
-    words: &[String],
-) -> Result<(Status, MemoryBay)> {
+fn run_words_alone(alloc: Global, case: &Case, words: &[String], told: &mut String) -> Result<()> {
     let mut bay = bay_of(alloc, case)?;
     let status = alone(alloc, words, &mut bay);
-    Ok((status, bay))
+    show(alloc, case, status, Shown::Nothing, &bay, told)?;
+    Ok(())
+}
+
+/// How a command ends without threads.
+pub(crate) fn ended_alone(alloc: Global, case: &Case, words: &[String]) -> Result<Status> {
+    let mut bay = bay_of(alloc, case)?;
+    Ok(alone(alloc, words, &mut bay))
 }
 
 /// The words of a line. An empty line has none.
-fn words_of(alloc: Global, line: &str) -> Result<Vec<String>> {
+fn words_of(alloc: Global, line: &str) -> Result<Vec<String>, AllocError> {
     if line.is_empty() {
         return Ok(Vec::new(alloc));
     }
@@ -101,7 +121,7 @@ fn words_of(alloc: Global, line: &str) -> Result<Vec<String>> {
 }
 
 /// The words of a line, parted by spaces: one at least, which may be empty.
-pub(crate) fn words_in(alloc: Global, line: &str) -> Result<Vec<String>> {
+pub(crate) fn words_in(alloc: Global, line: &str) -> Result<Vec<String>, AllocError> {
     let mut words = Vec::new(alloc);
     for word in line.split(' ') {
         words.push(String::from_str(alloc, word)?)?;
@@ -126,28 +146,6 @@ fn bay_of(alloc: Global, case: &Case) -> Result<MemoryBay>
         bay.take_at_most(most);
     }
     Ok(bay)
-}
-
-/// Runs a command over the gate of two workers, and tells whether both came to it.
-fn run_pair<R: Threads + Wait + Sync, B: Bay>(
-    rt: &R,
-    alloc: Global,
-    words: &[String],
-    bay: &mut B,
-    first: u32,
-    second: u32,
-    told: &mut String,
-) -> Result<Told>
-    requires { NoneOpen (B.moment bay.old) }
-{
-    if first == second {
-        return Err(anyhow!("a worker doesn't meet itself"));
-    }
-    let gate = PairGate::of(first, second);
-    let ended = through(rt, alloc, words, bay, &gate);
-    let met = gate.entered(first) && gate.entered(second) && !gate.limit_met();
-    writeln!(told, "both meet: {met}")?;
-    Ok(ended)
 }
 
 fn through<R: Threads + Wait + Sync, B: Bay, G: Gate + Sync>(

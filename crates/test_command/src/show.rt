@@ -2,21 +2,30 @@
 
 use crate::case::Case;
 use crate::lanes::{show_lanes, sum_of};
-use anyhow::Result;
-use std::alloc::Global;
+use std::alloc::{AllocError, Global};
 use std::fmt::Write;
 use xsk_cli::Status;
-use xsk_io::{MemoryBay, Stream};
+use xsk_io::{MemoryBay, Offer, Stream};
 
 /// The most bytes of an output that are told one by one.
 const MOST_TOLD: usize = 256;
 
 /// What a run on threads shows.
-#[derive(Clone, Copy, PartialEq, Eq)]
+#[derive(Clone, Copy)]
 pub(crate) enum Shown {
     Nothing,
     NoCalls,
     Calls,
+}
+
+impl Shown {
+    fn words(self) -> &'static str {
+        match self {
+            Shown::Nothing => "",
+            Shown::NoCalls => "a run without calls is shown\n",
+            Shown::Calls => "a run is shown\n",
+        }
+    }
 }
 
 /// Tells the status, its number, what was shown, the outputs in which something stands, the report, and the writes.
@@ -27,66 +36,90 @@ pub(crate) fn show(
     shown: Shown,
     bay: &MemoryBay,
     told: &mut String,
-) -> Result<()> {
+) -> Result<(), AllocError> {
     writeln!(told, "{status:?}, {}", status.exit_status())?;
-    match shown {
-        Shown::Nothing => {}
-        Shown::NoCalls => told.push_str("a run without calls is shown\n")?,
-        Shown::Calls => told.push_str("a run is shown\n")?,
-    }
+    told.push_str(shown.words())?;
     for port in 0..4 {
-        match bay.output(Stream::Output(port)) {
-            Some([]) => {}
-            Some(text) => show_output(alloc, case, port, text, told)?,
-            None => writeln!(told, "out{port} has no room")?,
-        }
+        show_port(alloc, case, port, bay.output(Stream::Output(port)), told)?;
     }
-    show_report(alloc, case, bay, told)?;
+    show_report(alloc, case, bay.output(Stream::Report), told)?;
     if case.next.tells_writes {
-        show_writes(bay, told)?;
+        show_writes(bay.offers(), told)?;
     }
     Ok(())
 }
 
-/// Tells an output: by its lanes where the case asks for that, and else by the name of the text that it is, its bytes or
-/// their sum.
+fn show_port(
+    alloc: Global,
+    case: &Case,
+    port: u32,
+    text: Option<&[u8]>,
+    told: &mut String,
+) -> Result<(), AllocError> {
+    match text {
+        Some(text) => show_output(alloc, case, port, text, told),
+        None => writeln!(told, "out{port} has no room"),
+    }
+}
+
+/// Tells an output in which something stands: by its lanes where the case asks for that, and else by the name of the text that it
+/// is, its bytes or their sum.
 fn show_output(
     alloc: Global,
     case: &Case,
     port: u32,
     text: &[u8],
     told: &mut String,
-) -> Result<()> {
+) -> Result<(), AllocError> {
+    if text.is_empty() {
+        return Ok(());
+    }
     if let Some(spread) = case.spread {
         return show_lanes(port, text, spread, told);
     }
-    if let Some(name) = case.name_of(text) {
-        writeln!(told, "out{port} is {name}")?;
-    } else if text.len() <= MOST_TOLD {
-        let digits = hex::encode(alloc, text)?;
-        writeln!(told, "out{port} {digits}")?;
-    } else {
-        let sum = sum_of(text);
-        writeln!(told, "out{port} {} bytes, sum {sum:016x}", text.len())?;
+    match case.name_of(text) {
+        Some(name) => writeln!(told, "out{port} is {name}"),
+        None => show_bytes(alloc, port, text, told),
     }
-    Ok(())
+}
+
+/// Tells the bytes of an output, or, where they are many, their sum.
+fn show_bytes(alloc: Global, port: u32, text: &[u8], told: &mut String) -> Result<(), AllocError> {
+    if text.len() <= MOST_TOLD {
+        let digits = hex::encode(alloc, text)?;
+        return writeln!(told, "out{port} {digits}");
+    }
+    let sum = sum_of(text);
+    writeln!(told, "out{port} {} bytes, sum {sum:016x}", text.len())
 }
 
 /// Tells the report as it stands, or which of the fronts a line of it has.
-fn show_report(alloc: Global, case: &Case, bay: &MemoryBay, told: &mut String) -> Result<()> {
-    let Some(report) = bay.output(Stream::Report) else {
-        told.push_str("the report has no room\n")?;
-        return Ok(());
+fn show_report(
+    alloc: Global,
+    case: &Case,
+    report: Option<&[u8]>,
+    told: &mut String,
+) -> Result<(), AllocError> {
+    let Some(report) = report else {
+        return told.push_str("the report has no room\n");
     };
     let Ok(report) = str::from_utf8(report) else {
-        let digits = hex::encode(alloc, report)?;
-        writeln!(told, "report {digits}")?;
-        return Ok(());
+        return show_digits(alloc, report, told);
     };
     if case.next.fronts.is_empty() {
         return show_text(report, told);
     }
-    for front in &case.next.fronts {
+    show_fronts(report, case.next.fronts.as_slice(), told)
+}
+
+fn show_digits(alloc: Global, report: &[u8], told: &mut String) -> Result<(), AllocError> {
+    let digits = hex::encode(alloc, report)?;
+    writeln!(told, "report {digits}")
+}
+
+/// Tells which of the fronts a line of the report has.
+fn show_fronts(report: &str, fronts: &[String], told: &mut String) -> Result<(), AllocError> {
+    for front in fronts {
         let front = front.as_str();
         let has = if has_line(report, front) {
             "has"
@@ -99,7 +132,7 @@ fn show_report(alloc: Global, case: &Case, bay: &MemoryBay, told: &mut String) -
 }
 
 /// Tells a text as it stands, and that its last line has no end.
-fn show_text(text: &str, told: &mut String) -> Result<()> {
+fn show_text(text: &str, told: &mut String) -> Result<(), AllocError> {
     told.push_str(text)?;
     if !text.is_empty() && !text.ends_with('\n') {
         told.push_str("(no end of the line)\n")?;
@@ -116,10 +149,9 @@ fn has_line(text: &str, front: &str) -> bool {
     false
 }
 
-fn show_writes(bay: &MemoryBay, told: &mut String) -> Result<()> {
-    let Some(offers) = bay.offers() else {
-        told.push_str("too many writes\n")?;
-        return Ok(());
+fn show_writes(offers: Option<&[Offer]>, told: &mut String) -> Result<(), AllocError> {
+    let Some(offers) = offers else {
+        return told.push_str("too many writes\n");
     };
     for offer in offers {
         writeln!(

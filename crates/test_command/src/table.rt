@@ -1,4 +1,6 @@
 //! What words mean by a table of options.
+ghost use Rattle.std.specs.Prelude.{◌++◌, []};
+ghost use Rattle.xsk_args.specs.Meaning.{HasNoFileRow};
 
 use crate::case::Case;
 use crate::run::{ended_alone, words_in};
@@ -108,38 +110,46 @@ static SMALL: [OptionRow; 5] = [
     },
 ];
 
-/// What the words of a line mean, and whether the command takes them for a faulty command line where they mean nothing, and only
-/// there.
-pub(crate) fn meaning(alloc: Global, case: &Case, line: &str) -> Result<String> {
+/// Tells what the words of a line mean, and whether the command takes them for a faulty command line where they mean nothing, and
+/// only there.
+pub(crate) fn meaning(alloc: Global, case: &Case, line: &str, told: &mut String) -> Result<()> {
+    write!(told, "{line} => ")?;
     let words = words_in(alloc, line)?;
-    let mut told = format!(in alloc; "{line} => ")?;
-    let means = match parse(alloc, "simulate", &[OPTIONS.as_slice()], words.as_slice()) {
-        Ok(args) => {
-            tell_meaning(&args, OPTIONS.as_slice(), &mut told)?;
-            true
-        }
-        Err(error) => tell_refusal(error, &mut told)?,
-    };
-    let (status, _bay) = ended_alone(alloc, case, words.as_slice())?;
+    tell_both(alloc, case, words.as_slice(), told)
+}
+
+fn tell_both(alloc: Global, case: &Case, words: &[String], told: &mut String) -> Result<()> {
+    let means = tell_parsed(alloc, OPTIONS.as_slice(), words, told)?;
+    let status = ended_alone(alloc, case, words)?;
     if means == (status == Status::Usage) {
         write!(told, ", but the command ends with {status:?}")?;
     }
     told.push_str("\n")?;
-    Ok(told)
+    Ok(())
 }
 
-/// What the words of a line mean by the smaller table.
-pub(crate) fn meaning_by_small_table(alloc: Global, line: &str) -> Result<String> {
+/// Tells what the words of a line mean by the smaller table.
+pub(crate) fn meaning_by_small_table(alloc: Global, line: &str, told: &mut String) -> Result<()> {
+    write!(told, "{line} => ")?;
     let words = words_in(alloc, line)?;
-    let mut told = format!(in alloc; "{line} => ")?;
-    match parse(alloc, "simulate", &[SMALL.as_slice()], words.as_slice()) {
-        Ok(args) => tell_meaning(&args, SMALL.as_slice(), &mut told)?,
-        Err(error) => {
-            tell_refusal(error, &mut told)?;
-        }
-    }
+    tell_parsed(alloc, SMALL.as_slice(), words.as_slice(), told)?;
     told.push_str("\n")?;
-    Ok(told)
+    Ok(())
+}
+
+/// Tells what words mean by a table, and whether they mean something.
+fn tell_parsed(
+    alloc: Global,
+    table: &[OptionRow],
+    words: &[String],
+    told: &mut String,
+) -> Result<bool>
+    requires { HasNoFileRow (table.now ++ []) }
+{
+    match parse(alloc, "simulate", &[table], words) {
+        Ok(args) => tell_meaning(&args, table, told),
+        Err(error) => tell_refusal(error, told),
+    }
 }
 
 /// Tells that words mean nothing.
@@ -152,7 +162,7 @@ fn tell_refusal(error: ArgsError, told: &mut String) -> Result<bool> {
 }
 
 /// Tells the options that were said, with their values, and the files.
-fn tell_meaning(args: &Args<'_>, table: &[OptionRow], told: &mut String) -> Result<()> {
+fn tell_meaning(args: &Args<'_>, table: &[OptionRow], told: &mut String) -> Result<bool> {
     for row in table {
         tell_option(args, *row, told)?;
     }
@@ -163,7 +173,7 @@ fn tell_meaning(args: &Args<'_>, table: &[OptionRow], told: &mut String) -> Resu
         told.push_str(file)?;
         between = ",";
     }
-    Ok(())
+    Ok(true)
 }
 
 /// Tells an option that was said, with its value as the table's kind of it is read.

@@ -8,7 +8,6 @@
 //! - Any other token is bytes, in hexadecimal digits.
 //! - `TIMES*TOKEN` is the token so many times.
 
-use anyhow::Result;
 use hex::FromHexError;
 use std::alloc::{AllocError, Global};
 
@@ -17,11 +16,8 @@ pub(crate) const HEADER: [u8; 24] = [
     0xd4, 0xc3, 0xb2, 0xa1, 2, 0, 4, 0, 0, 0, 0, 0, 0, 0, 0, 0, 0, 0, 4, 0, 1, 0, 0, 0,
 ];
 
-/// How many bytes are filled at once.
-const BLOCK: u32 = 4_096;
-
 /// The bytes that the tokens say, where each of them says some.
-pub(crate) fn text_of(alloc: Global, tokens: &str) -> Result<Option<Vec<u8>>> {
+pub(crate) fn text_of(alloc: Global, tokens: &str) -> Result<Option<Vec<u8>>, AllocError> {
     let mut text = Text {
         bytes: Vec::new(alloc),
         records: 0,
@@ -50,7 +46,7 @@ struct Text {
 
 impl Text {
     /// Adds what a token says. False where it says nothing.
-    fn add(&mut self, alloc: Global, token: &str) -> Result<bool> {
+    fn add(&mut self, alloc: Global, token: &str) -> Result<bool, AllocError> {
         let Some((times, piece)) = token.split_once('*') else {
             return self.add_once(alloc, token);
         };
@@ -65,7 +61,7 @@ impl Text {
         Ok(true)
     }
 
-    fn add_once(&mut self, alloc: Global, piece: &str) -> Result<bool> {
+    fn add_once(&mut self, alloc: Global, piece: &str) -> Result<bool, AllocError> {
         if piece == "head" {
             self.bytes.extend_from_slice(&HEADER)?;
             return Ok(true);
@@ -82,7 +78,7 @@ impl Text {
         }
     }
 
-    fn add_zeros(&mut self, count: &str) -> Result<bool> {
+    fn add_zeros(&mut self, count: &str) -> Result<bool, AllocError> {
         let Ok(count) = count.parse::<u32>() else {
             return Ok(false);
         };
@@ -90,7 +86,7 @@ impl Text {
         Ok(true)
     }
 
-    fn add_hex(&mut self, alloc: Global, digits: &str) -> Result<bool> {
+    fn add_hex(&mut self, alloc: Global, digits: &str) -> Result<bool, AllocError> {
         let Some(bytes) = bytes_of(alloc, digits)? else {
             return Ok(false);
         };
@@ -99,7 +95,7 @@ impl Text {
     }
 
     /// Adds a record whose packet is said so.
-    fn add_packet(&mut self, alloc: Global, len: u32, packet: &str) -> Result<bool> {
+    fn add_packet(&mut self, alloc: Global, len: u32, packet: &str) -> Result<bool, AllocError> {
         if packet == "up" {
             self.add_record(len, &[], Fill::Up)?;
             return Ok(true);
@@ -137,20 +133,16 @@ impl Text {
     }
 
     fn fill(&mut self, byte: u8, count: u32) -> Result<(), AllocError> {
-        let block = [byte; BLOCK as usize];
-        for _ in 0..count / BLOCK {
-            self.bytes.extend_from_slice(&block)?;
-        }
-        self.bytes
-            .extend_from_slice(&block[..(count % BLOCK) as usize])
+        let len = self.bytes.len().saturating_add(count as usize);
+        self.bytes.resize(len, byte)
     }
 }
 
 /// The bytes of hexadecimal digits.
-fn bytes_of(alloc: Global, digits: &str) -> Result<Option<Vec<u8>>> {
+fn bytes_of(alloc: Global, digits: &str) -> Result<Option<Vec<u8>>, AllocError> {
     match hex::decode(alloc, digits.as_bytes()) {
         Ok(bytes) => Ok(Some(bytes)),
-        Err(FromHexError::OutOfMemory) => Err(AllocError)?,
+        Err(FromHexError::OutOfMemory) => Err(AllocError),
         Err(_) => Ok(None),
     }
 }
