@@ -34,7 +34,6 @@ ghost use Rattle.xsk_turns.specs.Stepping.{joined_ask, joined_answer, IsGivenBac
 ghost use Rattle.xsk_app.specs.Ways.{AreWays, IsGroup, CanGoOn, socket_in, IsReady, IsReady-prop, first_unset};
 
 use crate::back::Back;
-use crate::mangling::{mangle, round_of};
 use xsk_model::{Answer, Ask, Config, Mark, Ring};
 use xsk_turns::Manner;
 use xsk_umem::Batch;
@@ -152,7 +151,7 @@ pub(crate) struct Machine<'a> {
 impl<'a> Machine<'a> {
     ghost use Rattle.xsk_app.specs.Waits.{expects, IsBare};
     ghost use Rattle.xsk_app.specs.declared.machine.Wait.TheVariants as wait;
-    ghost use Rattle.xsk_turns.specs.AppTurns.{tx_of, tx_pair, given_on, passed_on, kick, wake, wake_both, pass_on, receive_lane, visit_lane, visit_lanes, noted_first, turn_lanes, end_by, drains, give_back, complete_side, visit_side, back_at, pending_at, with_back, with_seen, with_gone, look_rx_done, look_gone, tell_tx_done, end_or_look, turn_sides};
+    ghost use Rattle.xsk_turns.specs.AppTurns.{tx_of, tx_pair, kick, wake, wake_both, pass_on, receive_lane, visit_lane, visit_lanes, noted_first, turn_lanes, end_by, drains, give_back, complete_side, visit_side, back_at, pending_at, with_back, with_seen, with_gone, look_rx_done, look_gone, tell_tx_done, end_or_look, turn_sides};
     ghost use Rattle.xsk_app.specs.Stands.{GoesOn, to_do, doing, by_reply, IsSame, HasSameRest, noted_by, kept_by, from_lane, after_full_lane, from_side, after_full_side, after_group, after, wake_by, told_tx_done};
     ghost use Rattle.xsk_turns.specs.Script.{again};
 
@@ -455,62 +454,6 @@ impl<'a> Machine<'a> {
         self.wait = Wait::SubmitTx { lane };
         self.put_out(lane, items);
         *asked = Some(Ask::Submit(Ring::Tx(tx)));
-    }
-
-    /// Moves the lane's pending items to the batch, by its manner.
-    fn put_out(&mut self, lane: usize, items: &mut Batch)
-        requires lane { lane < vec_len self.old.pending }
-        requires at { self.old.wait ≡ wait.SubmitTx lane }
-        requires empty { items.old ≡ [] }
-        ensures items { items.new ≡ given_on self.old.config.now lane (kept_by self.old) }
-        ensures kept { kept_by self.new ≡ passed_on self.old.config.now lane (kept_by self.old) }
-        ensures rest { HasSameRest self.old self.new }
-    {
-        match self.manner.mangle {
-            None => self.move_on(lane, items),
-            Some(every) => self.mangle(lane, every, items),
-        }
-    }
-
-    /// Moves the lane's pending items to the batch as they are.
-    fn move_on(&mut self, lane: usize, items: &mut Batch)
-        requires lane { lane < vec_len self.old.pending }
-        requires at { self.old.wait ≡ wait.SubmitTx lane }
-        requires plain { self.old.manner.mangle ≡ None }
-        requires empty { items.old ≡ [] }
-        ensures items { items.new ≡ given_on self.old.config.now lane (kept_by self.old) }
-        ensures kept { kept_by self.new ≡ passed_on self.old.config.now lane (kept_by self.old) }
-        ensures rest { HasSameRest self.old self.new }
-    {
-        let pending = &mut self.pending[lane];
-        // At most 32 items are pending.
-        let _count = pending.len();
-        items.append(pending);
-    }
-
-    /// Moves them there as the manner changes them, and keeps the frames that are taken from them with the side that received
-    /// them.
-    fn mangle(&mut self, lane: usize, every: u32, items: &mut Batch)
-        requires lane { lane < vec_len self.old.pending }
-        requires at { self.old.wait ≡ wait.SubmitTx lane }
-        requires manner { self.old.manner.mangle ≡ Some every }
-        requires empty { items.old ≡ [] }
-        ensures items { items.new ≡ given_on self.old.config.now lane (kept_by self.old) }
-        ensures kept { kept_by self.new ≡ passed_on self.old.config.now lane (kept_by self.old) }
-        ensures rest { HasSameRest self.old self.new }
-    {
-        let pending = &mut self.pending[lane];
-        let back = &mut self.backs[self.ways[lane].side];
-        let count = u64::from(pending.len());
-        mangle(
-            self.config.geometry(),
-            every,
-            self.number,
-            pending,
-            back,
-            items,
-        );
-        self.number = (self.number + count) % round_of(every);
     }
 
     /// Wakes the driver of the lane's TX ring.

@@ -1,12 +1,76 @@
 //! What an application that changes items does to those that it submits on TX.
-ghost use Rattle.std.specs.Prelude.{◌≡◌, ◌+◌, ◌*◌, ◌<◌, ◌≤◌, [], ◌++◌, length, take};
+ghost use Rattle.std.specs.Prelude.{◌≡◌, None, Some, ◌+◌, ◌*◌, ◌<◌, ◌≤◌, [], ◌++◌, length, take, vec_len};
 ghost use Rattle.xsk_umem.specs.Limits.{most_frames};
 ghost use Rattle.xsk_turns.specs.Turns.{frame_in};
 ghost use Rattle.xsk_turns.specs.Mangling.{change_at as change_of_item, made_of, taken_of, made_by, taken_by, mangled, frames_taken, round_of as round_of_changes};
 
 use crate::back::Back;
+use crate::machine::Machine;
 use xsk_turns::Change;
 use xsk_umem::{Batch, Frame, Geometry, Item};
+
+/// What a machine puts on a TX ring.
+impl<'a> Machine<'a> {
+    ghost use Rattle.xsk_app.specs.declared.machine.Wait.TheVariants as wait;
+    ghost use Rattle.xsk_turns.specs.AppTurns.{given_on, passed_on};
+    ghost use Rattle.xsk_app.specs.Stands.{HasSameRest, kept_by};
+
+    /// Moves the lane's pending items to the batch, by its manner.
+    pub(crate) fn put_out(&mut self, lane: usize, items: &mut Batch)
+        requires lane { lane < vec_len self.old.pending }
+        requires at { self.old.wait ≡ wait.SubmitTx lane }
+        requires empty { items.old ≡ [] }
+        ensures items { items.new ≡ given_on self.old.config.now lane (kept_by self.old) }
+        ensures kept { kept_by self.new ≡ passed_on self.old.config.now lane (kept_by self.old) }
+        ensures rest { HasSameRest self.old self.new }
+    {
+        match self.manner.mangle {
+            None => self.move_on(lane, items),
+            Some(every) => self.mangle(lane, every, items),
+        }
+    }
+
+    /// Moves the lane's pending items to the batch as they are.
+    fn move_on(&mut self, lane: usize, items: &mut Batch)
+        requires lane { lane < vec_len self.old.pending }
+        requires at { self.old.wait ≡ wait.SubmitTx lane }
+        requires plain { self.old.manner.mangle ≡ None }
+        requires empty { items.old ≡ [] }
+        ensures items { items.new ≡ given_on self.old.config.now lane (kept_by self.old) }
+        ensures kept { kept_by self.new ≡ passed_on self.old.config.now lane (kept_by self.old) }
+        ensures rest { HasSameRest self.old self.new }
+    {
+        let pending = &mut self.pending[lane];
+        // At most 32 items are pending.
+        let _count = pending.len();
+        items.append(pending);
+    }
+
+    /// Moves them there as the manner changes them, and keeps the frames that are taken from them with the side that received
+    /// them.
+    fn mangle(&mut self, lane: usize, every: u32, items: &mut Batch)
+        requires lane { lane < vec_len self.old.pending }
+        requires at { self.old.wait ≡ wait.SubmitTx lane }
+        requires manner { self.old.manner.mangle ≡ Some every }
+        requires empty { items.old ≡ [] }
+        ensures items { items.new ≡ given_on self.old.config.now lane (kept_by self.old) }
+        ensures kept { kept_by self.new ≡ passed_on self.old.config.now lane (kept_by self.old) }
+        ensures rest { HasSameRest self.old self.new }
+    {
+        let pending = &mut self.pending[lane];
+        let back = &mut self.backs[self.ways[lane].side];
+        let count = u64::from(pending.len());
+        mangle(
+            self.config.geometry(),
+            every,
+            self.number,
+            pending,
+            back,
+            items,
+        );
+        self.number = (self.number + count) % round_of(every);
+    }
+}
 
 /// Moves the pending items, of which the first has this number and one of so many is changed, to the batch. The frames that
 /// are taken from them are kept behind the others that go back.
