@@ -10,7 +10,7 @@ use crate::line::{Fault, Line};
 use crate::told::Told;
 use std::alloc::Global;
 use xsk_desc::{Gather, Gathered, fragments, validate};
-use xsk_umem::{Batch, Frames, Geometry, Item, XdpDesc};
+use xsk_umem::{Batch, Frames, Geometry, Item, Umem, XdpDesc};
 
 #[derive(Drop)]
 pub struct Descriptors {
@@ -29,7 +29,8 @@ impl Descriptors {
     }
 
     fn register(&mut self, line: &mut Line<'_>, told: &mut Told) -> Result<(), Fault> {
-        match line.umem(self.alloc)? {
+        let (len, chunk, headroom) = line.umem()?;
+        match Umem::register(self.alloc, len, chunk, headroom) {
             Ok(umem) => self.umem = Some(umem),
             Err(_) => return Err(Fault::NotLegal),
         }

@@ -2,11 +2,12 @@
 use crate::bytes;
 use crate::hand::Known;
 use crate::noted::Board;
-use crate::object::{Engine, walk};
+use crate::object::{Engine, walks};
 use crate::stage::Stage;
 use crate::told::Told;
+use std::alloc::AllocError;
 use std::string::String;
-use xsk_umem::{Frame, Frames, OutOfMemory};
+use xsk_umem::{Frame, Frames};
 
 /// Tells the frames that an object gives up. A star stands behind one that was written, and a question mark behind one with
 /// other bytes.
@@ -39,20 +40,20 @@ fn sign_of(known: &Known, frame: &Frame) -> &'static str {
 }
 
 /// Goes over the lines of all calls once more, which are those that were told.
-fn compare<E: Engine, B: Board>(stage: &mut Stage<E, B>) -> Result<(), OutOfMemory> {
-    let (lines, callers) = walk(&stage.object, stage.alloc)?;
-    let same = lines.as_slice() == stage.lines.as_slice();
-    let by_same = callers.as_slice() == stage.callers.as_slice();
-    if !same || !by_same {
+fn compare<E: Engine, B: Board>(stage: &mut Stage<E, B>) {
+    if !walks(
+        &stage.object,
+        stage.lines.as_slice(),
+        stage.callers.as_slice(),
+    ) {
         stage.out.say("  a walk tells other lines\n");
     }
-    Ok(())
 }
 
 /// What is printed of a run, with the frames that the object gives up, and those of the table if there is one.
-pub(crate) fn end<E: Engine, B: Board>(stage: Stage<E, B>) -> Result<String, OutOfMemory> {
+pub(crate) fn end<E: Engine, B: Board>(stage: Stage<E, B>) -> Result<String, AllocError> {
     let mut stage = stage;
-    compare(&mut stage)?;
+    compare(&mut stage);
     let Stage {
         object,
         table,
@@ -70,5 +71,5 @@ pub(crate) fn end<E: Engine, B: Board>(stage: Stage<E, B>) -> Result<String, Out
         out.say("on the table ");
         tell_frames(&hand.known, table.close(), &mut out);
     }
-    Ok(out.into_text()?)
+    out.into_text()
 }

@@ -9,7 +9,7 @@ use crate::line::{Fault, Line};
 use crate::told::Told;
 use crate::{packed, runs};
 use std::alloc::Global;
-use xsk_umem::{Batch, Frame, Frames as Queue, Geometry, Item};
+use xsk_umem::{Batch, Frame, Frames as Queue, Geometry, Item, Umem};
 
 #[derive(Drop)]
 pub struct Frames {
@@ -30,7 +30,8 @@ impl Frames {
     }
 
     fn register(&mut self, line: &mut Line<'_>, told: &mut Told) -> Result<(), Fault> {
-        match line.umem(self.alloc)? {
+        let (len, chunk, headroom) = line.umem()?;
+        match Umem::register(self.alloc, len, chunk, headroom) {
             Ok(umem) => {
                 tell_geometry(&umem.0, told);
                 self.umem = Some(umem);

@@ -1,6 +1,6 @@
 //! The words of a line.
 use std::alloc::{AllocError, AllocFailed, Global};
-use xsk_umem::{Frames, Geometry, OutOfMemory, Umem, UmemError, XdpDesc};
+use xsk_umem::{OutOfMemory, XdpDesc};
 
 /// Why a line has no answer.
 #[derive(Clone, Copy)]
@@ -94,6 +94,25 @@ impl<'a> Line<'a> {
         }
     }
 
+    /// The word that is left, which must be the last one.
+    pub fn last(&mut self) -> Result<&'a str, Fault> {
+        let word = self.word()?;
+        match self.next() {
+            Some(_) => Err(Fault::BadLine),
+            None => Ok(word),
+        }
+    }
+
+    /// The last word, as a number.
+    pub fn last_number(&mut self) -> Result<u32, Fault> {
+        number_in(self.last()?)
+    }
+
+    /// The last word, as a number of 64 bits.
+    pub fn last_long(&mut self) -> Result<u64, Fault> {
+        long_in(self.last()?)
+    }
+
     /// The next word, as a number.
     pub fn number(&mut self) -> Result<u32, Fault> {
         number_in(self.word()?)
@@ -123,10 +142,10 @@ impl<'a> Line<'a> {
         Ok(XdpDesc { addr, len, options })
     }
 
-    /// The UMEM of the length, the chunk and the headroom in the next three words.
-    pub fn umem(&mut self, alloc: Global) -> Result<Result<(Geometry, Frames), UmemError>, Fault> {
+    /// The length, the chunk and the headroom of a UMEM in the next three words.
+    pub fn umem(&mut self) -> Result<(u64, u32, u32), Fault> {
         let len = self.long()?;
         let (chunk, headroom) = self.two()?;
-        Ok(Umem::register(alloc, len, chunk, headroom))
+        Ok((len, chunk, headroom))
     }
 }

@@ -2,6 +2,7 @@
 use crate::line::Fault;
 use crate::makers::{Maker, Makers};
 use crate::reply::Asked;
+use crate::runs::behind;
 use std::alloc::Global;
 use xsk_log::{LineBuffer, Lines, Log};
 use xsk_model::{Call, Config};
@@ -145,23 +146,30 @@ impl Engine for Plain {
     }
 }
 
-/// The lines of all calls, one behind the other, and their callers. Behind the last one there is none, and the buffer stays.
-pub(crate) fn walk<E: Engine>(
-    engine: &E,
-    alloc: Global,
-) -> Result<(Vec<u8>, Vec<u32>), OutOfMemory> {
+/// Whether the lines of all calls, one behind the other, are these, and their callers these. Behind the last one there is none.
+pub(crate) fn walks<E: Engine>(engine: &E, lines: &[u8], callers: &[u32]) -> bool {
     let mut line = LineBuffer::new();
-    let mut text = Vec::new(alloc);
-    let mut callers = Vec::new(alloc);
-    let mut lines = engine.lines();
-    for _ in 0..engine.log().len() {
-        if let Some(who) = lines.write_next(&mut line) {
-            text.extend_from_slice(line.bytes())?;
-            callers.push(who)?;
-        }
+    let mut walk = engine.lines();
+    let mut rest = lines;
+    let mut same = engine.log().len() as usize == callers.len();
+    for who in callers {
+        let found = walk.write_next(&mut line);
+        same = same && is_caller(found, *who) && begins(rest, line.bytes());
+        rest = behind(rest, line.bytes().len());
     }
-    if lines.write_next(&mut line).is_some() {
-        text.extend_from_slice(line.bytes())?;
+    same && rest.is_empty() && walk.write_next(&mut line).is_none()
+}
+
+fn is_caller(found: Option<u32>, who: u32) -> bool {
+    match found {
+        Some(found) => found == who,
+        None => false,
     }
-    Ok((text, callers))
+}
+
+fn begins(text: &[u8], start: &[u8]) -> bool {
+    match text.get(..start.len()) {
+        Some(found) => found == start,
+        None => false,
+    }
 }

@@ -117,18 +117,27 @@ fn driver_in(line: &mut Line<'_>) -> Result<DriverFigures, Fault> {
 }
 
 fn counters_in(line: &mut Line<'_>) -> Result<DriverCounters, Fault> {
-    let mut counters = DriverCounters {
-        rx_dropped: line.long()?,
-        rx_invalid_descs: line.long()?,
-        rx_fill_ring_empty_descs: line.long()?,
-        rx_ring_full: [0; 4],
-        tx_invalid_descs: [0; 4],
-        tx_ring_empty_descs: [0; 4],
-    };
-    take_numbers(&mut counters.rx_ring_full, line)?;
-    take_numbers(&mut counters.tx_invalid_descs, line)?;
-    take_numbers(&mut counters.tx_ring_empty_descs, line)?;
-    Ok(counters)
+    let rx_dropped = line.long()?;
+    let rx_invalid_descs = line.long()?;
+    let rx_fill_ring_empty_descs = line.long()?;
+    let rx_ring_full = four(line)?;
+    let tx_invalid_descs = four(line)?;
+    let tx_ring_empty_descs = four(line)?;
+    Ok(DriverCounters {
+        rx_dropped,
+        rx_invalid_descs,
+        rx_fill_ring_empty_descs,
+        rx_ring_full,
+        tx_invalid_descs,
+        tx_ring_empty_descs,
+    })
+}
+
+/// A number for each class.
+fn four(line: &mut Line<'_>) -> Result<[u64; 4], Fault> {
+    let mut numbers = [0; 4];
+    take_numbers(&mut numbers, line)?;
+    Ok(numbers)
 }
 
 fn take_numbers(numbers: &mut [u64], line: &mut Line<'_>) -> Result<(), Fault> {

@@ -7,8 +7,8 @@ use crate::noted::{Board, Noted};
 use crate::object::{Engine, Judge};
 use crate::setup::read_setup;
 use crate::stage::Stage;
-use crate::step::{Plan, Step, read};
-use crate::words::{Move, Who};
+use crate::step::{Step, read};
+use crate::words::{Move, Thing, Who};
 use std::alloc::{AllocError, Global};
 use std::string::String;
 use xsk_model::Mark;
@@ -68,18 +68,32 @@ fn begin<E: Engine, B: Board>(
 }
 
 fn play_all<E: Engine, B: Board>(stage: &mut Stage<E, B>, script: &str) -> Result<(), OutOfMemory> {
+    let mut things = Vec::new(stage.alloc);
+    play_lines(stage, script, &mut things)
+}
+
+fn play_lines<E: Engine, B: Board>(
+    stage: &mut Stage<E, B>,
+    script: &str,
+    things: &mut Vec<Thing>,
+) -> Result<(), OutOfMemory> {
     for line in script.split("\n") {
         if says(line) {
-            play(stage, line)?;
+            play(stage, line, things)?;
         }
     }
     Ok(())
 }
 
-/// Plays a line.
-fn play<E: Engine, B: Board>(stage: &mut Stage<E, B>, line: &str) -> Result<(), OutOfMemory> {
-    match read(stage.alloc, line) {
-        Ok(step) => make(stage, line, &step),
+/// Plays a line. The items of the line before are taken out.
+fn play<E: Engine, B: Board>(
+    stage: &mut Stage<E, B>,
+    line: &str,
+    things: &mut Vec<Thing>,
+) -> Result<(), OutOfMemory> {
+    things.clear();
+    match read(line, things) {
+        Ok(step) => make(stage, line, step, things.as_slice()),
         Err(Fault::OutOfMemory) => Err(OutOfMemory),
         Err(_) => {
             stage.say(line, "can't be read");
@@ -88,18 +102,19 @@ fn play<E: Engine, B: Board>(stage: &mut Stage<E, B>, line: &str) -> Result<(), 
     }
 }
 
-/// Makes a step.
+/// Makes a step, with these items if it is a Submit.
 fn make<E: Engine, B: Board>(
     stage: &mut Stage<E, B>,
     line: &str,
-    step: &Step,
+    step: Step,
+    things: &[Thing],
 ) -> Result<(), OutOfMemory> {
     match step {
-        Step::Call(plan) => return call(stage, line, plan),
-        Step::Note(who, late) => note(stage, line, *who, *late),
-        Step::Meet(who, late) => meet(stage, line, *who, *late),
-        Step::Count(who, mark, most) => return count(stage, line, *who, *mark, *most),
-        Step::Drawn(seed, calls) => return drawn(stage, line, *seed, *calls),
+        Step::Call(who, made, anew) => return call(stage, line, who, made, things, anew),
+        Step::Note(who, late) => note(stage, line, who, late),
+        Step::Meet(who, late) => meet(stage, line, who, late),
+        Step::Count(who, mark, most) => return count(stage, line, who, mark, most),
+        Step::Drawn(seed, calls) => return drawn(stage, line, seed, calls),
         Step::Passes => passes(stage, line),
     }
     Ok(())
@@ -108,13 +123,16 @@ fn make<E: Engine, B: Board>(
 fn call<E: Engine, B: Board>(
     stage: &mut Stage<E, B>,
     line: &str,
-    plan: &Plan,
+    who: Who,
+    made: Move,
+    things: &[Thing],
+    anew: bool,
 ) -> Result<(), OutOfMemory> {
-    let Some(who) = stage.caller(plan.who) else {
+    let Some(who) = stage.caller(who) else {
         stage.say(line, "no caller");
         return Ok(());
     };
-    let made = stage.make(who, plan.made, plan.things.as_slice(), plan.anew)?;
+    let made = stage.make(who, made, things, anew)?;
     stage.tell(line, who, made)
 }
 

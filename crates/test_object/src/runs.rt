@@ -99,9 +99,9 @@ pub fn tell(told: &mut Told, bytes: &[u8]) {
         was_run = is_run;
         rest = if is_run {
             tell_times(count, told);
-            after(rest, count)
+            behind(rest, count)
         } else {
-            after(rest, 1)
+            behind(rest, 1)
         };
     }
 }
@@ -121,6 +121,7 @@ fn equal_at_start(bytes: &[u8], first: u8) -> usize {
     bytes.len()
 }
 
-fn after(bytes: &[u8], count: usize) -> &[u8] {
+/// The bytes behind so many.
+pub fn behind(bytes: &[u8], count: usize) -> &[u8] {
     bytes.get(count..).unwrap_or(&[])
 }

@@ -64,15 +64,18 @@ impl Setup {
     }
 
     fn set_umem(&mut self, line: &mut Line<'_>) -> Result<(), Fault> {
-        self.frames = line.number()?;
-        self.chunk = line.number()?;
-        self.headroom = line.number()?;
+        let frames = line.number()?;
+        let (chunk, headroom) = line.two()?;
+        self.frames = frames;
+        self.chunk = chunk;
+        self.headroom = headroom;
         Ok(())
     }
 
     fn set_device(&mut self, line: &mut Line<'_>) -> Result<(), Fault> {
-        self.ports = line.number()?;
-        self.queues = line.number()?;
+        let (ports, queues) = line.two()?;
+        self.ports = ports;
+        self.queues = queues;
         Ok(())
     }
 

@@ -12,7 +12,7 @@ use xsk_socket::{
     RingKind, SealRefused, Setup, SetupError, XDP_COPY, XDP_SHARED_UMEM, XDP_USE_NEED_WAKEUP,
     XDP_USE_SG, XDP_ZEROCOPY,
 };
-use xsk_umem::Geometry;
+use xsk_umem::{Geometry, Umem};
 
 #[derive(Drop)]
 pub struct Setups {
@@ -33,7 +33,8 @@ impl Setups {
     }
 
     fn register(&mut self, line: &mut Line<'_>, told: &mut Told) -> Result<(), Fault> {
-        match line.umem(self.alloc)? {
+        let (len, chunk, headroom) = line.umem()?;
+        match Umem::register(self.alloc, len, chunk, headroom) {
             Ok((geometry, frames)) => {
                 self.geometry = Some(geometry);
                 told.number(frames.len());

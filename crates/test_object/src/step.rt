@@ -1,23 +1,13 @@
 //! The lines of a script.
-use crate::line::{Fault, Line, long_in, number_in};
+use crate::line::{Fault, Line};
 use crate::words::{Move, Place, Thing, Who, read_place, read_thing, read_who};
-use std::alloc::Global;
 use xsk_model::{Mark, Ring};
 
-/// A call that is to be made, with its items.
-#[derive(Drop)]
-pub(crate) struct Plan {
-    pub(crate) who: Who,
-    pub(crate) made: Move,
-    pub(crate) things: Vec<Thing>,
-    /// Whether a Reserve or a Peek looks at the other side's count in any case.
-    pub(crate) anew: bool,
-}
-
 /// What a line says.
-#[derive(Drop)]
+#[derive(Clone, Copy)]
 pub(crate) enum Step {
-    Call(Plan),
+    /// A call, and whether a Reserve or a Peek looks at the other side's count in any case.
+    Call(Who, Move, bool),
     /// Takes the early note, or the late one.
     Note(Who, bool),
     /// Meets it.
@@ -30,84 +20,64 @@ pub(crate) enum Step {
     Passes,
 }
 
-/// What a line says.
-pub(crate) fn read(alloc: Global, text: &str) -> Result<Step, Fault> {
+/// What a line says. The items of a Submit are put behind the others.
+pub(crate) fn read(text: &str, things: &mut Vec<Thing>) -> Result<Step, Fault> {
     let mut line = Line::new(text);
     let word = line.word()?;
     match word {
         "passes" => Ok(Step::Passes),
-        "note" => read_note(line),
-        "meet" => read_meet(line),
-        "drawn" => read_drawn(line),
-        "count" => read_count(line),
-        "anew" => read_call(alloc, line, true),
-        _ => read_call(alloc, Line::new(text), false),
+        "note" => read_note(&mut line),
+        "meet" => read_meet(&mut line),
+        "drawn" => read_drawn(&mut line),
+        "count" => read_count(&mut line),
+        "anew" => read_call(&mut line, things, true),
+        _ => read_call(&mut Line::new(text), things, false),
     }
 }
 
-fn read_note(line: Line<'_>) -> Result<Step, Fault> {
-    let mut line = line;
+fn read_note(line: &mut Line<'_>) -> Result<Step, Fault> {
     let who = read_who(line.word()?)?;
-    Ok(Step::Note(who, is_late(last(line)?)?))
+    Ok(Step::Note(who, read_late(line)?))
 }
 
-fn read_meet(line: Line<'_>) -> Result<Step, Fault> {
-    let mut line = line;
+fn read_meet(line: &mut Line<'_>) -> Result<Step, Fault> {
     let who = read_who(line.word()?)?;
-    Ok(Step::Meet(who, is_late(last(line)?)?))
+    Ok(Step::Meet(who, read_late(line)?))
 }
 
-fn is_late(time: &str) -> Result<bool, Fault> {
-    match time {
+fn read_late(line: &mut Line<'_>) -> Result<bool, Fault> {
+    match line.last()? {
         "early" => Ok(false),
         "late" => Ok(true),
         _ => Err(Fault::BadLine),
     }
 }
 
-fn read_drawn(line: Line<'_>) -> Result<Step, Fault> {
-    let mut line = line;
+fn read_drawn(line: &mut Line<'_>) -> Result<Step, Fault> {
     let seed = line.long()?;
-    Ok(Step::Drawn(seed, number_in(last(line)?)?))
+    Ok(Step::Drawn(seed, line.last_number()?))
 }
 
-fn read_count(line: Line<'_>) -> Result<Step, Fault> {
-    let mut line = line;
+fn read_count(line: &mut Line<'_>) -> Result<Step, Fault> {
     let who = read_who(line.word()?)?;
     match read_place(line.word()?)? {
-        Place::Mark(mark) => Ok(Step::Count(who, mark, long_in(last(line)?)?)),
+        Place::Mark(mark) => Ok(Step::Count(who, mark, line.last_long()?)),
         Place::Ring(_) => Err(Fault::BadLine),
     }
 }
 
-fn read_call(alloc: Global, line: Line<'_>, anew: bool) -> Result<Step, Fault> {
-    let mut line = line;
+fn read_call(line: &mut Line<'_>, things: &mut Vec<Thing>, anew: bool) -> Result<Step, Fault> {
     let who = read_who(line.word()?)?;
     let verb = line.word()?;
-    let made = match read_place(line.word()?)? {
-        Place::Ring(ring) => on_ring(verb, ring, line)?,
-        Place::Mark(mark) => on_mark(verb, mark, line)?,
-    };
-    let things = things_of(alloc, made, line)?;
-    Ok(Step::Call(Plan {
-        who,
-        made,
-        things,
-        anew,
-    }))
-}
-
-/// The items of a call: of a Submit those that the words left say, and of any other none.
-fn things_of(alloc: Global, made: Move, line: Line<'_>) -> Result<Vec<Thing>, Fault> {
-    let mut things = Vec::new(alloc);
+    let place = read_place(line.word()?)?;
+    let made = read_move(verb, place, line)?;
     if let Move::Submit(_) = made {
-        push_things(&mut things, line)?;
+        push_things(things, line)?;
     }
-    Ok(things)
+    Ok(Step::Call(who, made, anew))
 }
 
-fn push_things(things: &mut Vec<Thing>, line: Line<'_>) -> Result<(), Fault> {
-    let mut line = line;
+fn push_things(things: &mut Vec<Thing>, line: &mut Line<'_>) -> Result<(), Fault> {
     for _ in 0..u64::MAX {
         let Some(word) = line.next() else {
             break;
@@ -117,12 +87,19 @@ fn push_things(things: &mut Vec<Thing>, line: Line<'_>) -> Result<(), Fault> {
     Ok(())
 }
 
+fn read_move(verb: &str, place: Place, line: &mut Line<'_>) -> Result<Move, Fault> {
+    match place {
+        Place::Ring(ring) => on_ring(verb, ring, line),
+        Place::Mark(mark) => on_mark(verb, mark, line),
+    }
+}
+
 /// A call on a ring, with the number behind it where it needs one.
-fn on_ring(verb: &str, ring: Ring, line: Line<'_>) -> Result<Move, Fault> {
+fn on_ring(verb: &str, ring: Ring, line: &mut Line<'_>) -> Result<Move, Fault> {
     if verb == "submit" {
         return Ok(Move::Submit(ring));
     }
-    let count = number_in(last(line)?)?;
+    let count = line.last_number()?;
     match verb {
         "reserve" => Ok(Move::Reserve(ring, count)),
         "peek" => Ok(Move::Peek(ring, count)),
@@ -132,20 +109,10 @@ fn on_ring(verb: &str, ring: Ring, line: Line<'_>) -> Result<Move, Fault> {
 }
 
 /// A call on a mark, with the value behind it where it needs one.
-fn on_mark(verb: &str, mark: Mark, line: Line<'_>) -> Result<Move, Fault> {
+fn on_mark(verb: &str, mark: Mark, line: &mut Line<'_>) -> Result<Move, Fault> {
     match verb {
-        "swap" => Ok(Move::Swap(mark, long_in(last(line)?)?)),
+        "swap" => Ok(Move::Swap(mark, line.last_long()?)),
         "look" => Ok(Move::Look(mark)),
         _ => Err(Fault::BadLine),
-    }
-}
-
-/// The word that is left, which must be the last one.
-fn last<'a>(line: Line<'a>) -> Result<&'a str, Fault> {
-    let mut line = line;
-    let word = line.word()?;
-    match line.next() {
-        Some(_) => Err(Fault::BadLine),
-        None => Ok(word),
     }
 }

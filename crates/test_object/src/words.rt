@@ -1,5 +1,5 @@
 //! Words of a line: callers, rings, marks and items, as a journal has them.
-use crate::line::{Fault, long_in, number_in};
+use crate::line::{Fault, cut, long_in, number_in};
 use xsk_model::{Mark, Ring};
 use xsk_umem::XdpDesc;
 
@@ -44,14 +44,6 @@ pub(crate) enum Place {
     Mark(Mark),
 }
 
-/// The words before and behind the first sign of a kind.
-fn halves<'a>(word: &'a str, sign: &str) -> Result<(&'a str, &'a str), Fault> {
-    match word.split_once(sign) {
-        Some(halves) => Ok(halves),
-        None => Err(Fault::BadLine),
-    }
-}
-
 /// `d0` is the first driver, and `a0` the first application.
 pub(crate) fn read_who(word: &str) -> Result<Who, Fault> {
     if let Some(driver) = word.strip_prefix("d") {
@@ -65,56 +57,45 @@ pub(crate) fn read_who(word: &str) -> Result<Who, Fault> {
 
 /// `fill.0`, `need.tx.1` or `cell.1.0`.
 pub(crate) fn read_place(word: &str) -> Result<Place, Fault> {
-    let (kind, rest) = halves(word, ".")?;
+    let (kind, rest) = cut(word, ".");
     match kind {
-        "cell" => Ok(Place::Mark(cell_of(rest)?)),
-        "need" => Ok(Place::Mark(need_of(rest)?)),
+        "cell" => cell_of(rest),
+        "need" => need_of(rest),
         _ => place_of(kind, number_in(rest)?),
     }
 }
 
+/// The ring or the mark of a kind and a number.
 fn place_of(kind: &str, index: u32) -> Result<Place, Fault> {
-    match ring_of(kind, index) {
-        Some(ring) => Ok(Place::Ring(ring)),
-        None => Ok(Place::Mark(mark_of(kind, index)?)),
-    }
-}
-
-fn ring_of(kind: &str, index: u32) -> Option<Ring> {
     match kind {
-        "fill" => Some(Ring::Fill(index)),
-        "comp" => Some(Ring::Comp(index)),
-        "rx" => Some(Ring::Rx(index)),
-        "tx" => Some(Ring::Tx(index)),
-        _ => None,
-    }
-}
-
-/// The cell of a port and a place.
-fn cell_of(word: &str) -> Result<Mark, Fault> {
-    let (port, index) = halves(word, ".")?;
-    Ok(Mark::Cell(number_in(port)?, number_in(index)?))
-}
-
-fn need_of(word: &str) -> Result<Mark, Fault> {
-    let (kind, rest) = halves(word, ".")?;
-    let index = number_in(rest)?;
-    match kind {
-        "fill" => Ok(Mark::NeedFill(index)),
-        "tx" => Ok(Mark::NeedTx(index)),
+        "fill" => Ok(Place::Ring(Ring::Fill(index))),
+        "comp" => Ok(Place::Ring(Ring::Comp(index))),
+        "rx" => Ok(Place::Ring(Ring::Rx(index))),
+        "tx" => Ok(Place::Ring(Ring::Tx(index))),
+        "kick" => Ok(Place::Mark(Mark::Kick(index))),
+        "rxdone" => Ok(Place::Mark(Mark::RxDone(index))),
+        "gone" => Ok(Place::Mark(Mark::Gone(index))),
+        "txdone" => Ok(Place::Mark(Mark::TxDone(index))),
+        "closing" => Ok(Place::Mark(Mark::Closing(index))),
+        "acked" => Ok(Place::Mark(Mark::Acked(index))),
+        "bounced" => Ok(Place::Mark(Mark::Bounced(index))),
         _ => Err(Fault::BadLine),
     }
 }
 
-fn mark_of(kind: &str, index: u32) -> Result<Mark, Fault> {
+/// The cell of a port and a place.
+fn cell_of(word: &str) -> Result<Place, Fault> {
+    let (port, index) = cut(word, ".");
+    let port = number_in(port)?;
+    Ok(Place::Mark(Mark::Cell(port, number_in(index)?)))
+}
+
+fn need_of(word: &str) -> Result<Place, Fault> {
+    let (kind, index) = cut(word, ".");
+    let index = number_in(index)?;
     match kind {
-        "kick" => Ok(Mark::Kick(index)),
-        "rxdone" => Ok(Mark::RxDone(index)),
-        "gone" => Ok(Mark::Gone(index)),
-        "txdone" => Ok(Mark::TxDone(index)),
-        "closing" => Ok(Mark::Closing(index)),
-        "acked" => Ok(Mark::Acked(index)),
-        "bounced" => Ok(Mark::Bounced(index)),
+        "fill" => Ok(Place::Mark(Mark::NeedFill(index))),
+        "tx" => Ok(Place::Mark(Mark::NeedTx(index))),
         _ => Err(Fault::BadLine),
     }
 }
@@ -135,12 +116,13 @@ fn body_of(word: &str) -> Result<Body, Fault> {
 }
 
 fn thing_of(body: Body, desc: &str) -> Result<Thing, Fault> {
-    let (addr, rest) = halves(desc, ":")?;
-    let (len, options) = halves(rest, ":")?;
-    let desc = XdpDesc {
-        addr: long_in(addr)?,
-        len: number_in(len)?,
-        options: number_in(options)?,
-    };
-    Ok(Thing { body, desc })
+    let (addr, rest) = cut(desc, ":");
+    let (len, options) = cut(rest, ":");
+    let addr = long_in(addr)?;
+    let len = number_in(len)?;
+    let options = number_in(options)?;
+    Ok(Thing {
+        body,
+        desc: XdpDesc { addr, len, options },
+    })
 }
