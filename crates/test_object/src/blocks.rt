@@ -3,8 +3,7 @@ use crate::line::{Line, cut, number_in};
 use crate::makers::Makers;
 use crate::run::run;
 use crate::told::Told;
-use std::alloc::{AllocError, Global};
-use std::string::String;
+use std::alloc::Global;
 
 /// The lines of the setup of a name. They begin behind a line `setup NAME`, and end before an empty one.
 fn setup_named<'a>(scripts: &'a str, name: &str) -> Option<&'a str> {
@@ -18,18 +17,11 @@ fn setup_named<'a>(scripts: &'a str, name: &str) -> Option<&'a str> {
     None
 }
 
-/// What is printed of a script, of which what stands behind the word `script` is given: its name, a setup and the starting counts, or
-/// `checked` or `plain`, where calls are made on one object alone, and with `plain` also those that aren't legal. Its lines end before
-/// the next setup.
-pub(crate) fn told(alloc: Global, scripts: &str, script: &str) -> Result<String, AllocError> {
-    let mut told = Told::new(alloc);
+/// Tells a script, of which what stands behind the word `script` is given: its name, a setup and the starting counts, or `checked` or
+/// `plain`, where calls are made on one object alone, and with `plain` also those that aren't legal. Its lines end before the next setup.
+pub(crate) fn tell(alloc: Global, scripts: &str, script: &str, told: &mut Told) {
     let (own, _) = cut(script, "\nsetup ");
     let (head, lines) = cut(own, "\n");
-    tell_script(alloc, scripts, head, lines, &mut told);
-    told.into_text()
-}
-
-fn tell_script(alloc: Global, scripts: &str, head: &str, lines: &str, told: &mut Told) {
     let mut words = Line::new(head);
     told.say("script ");
     told.say(words.next().unwrap_or(""));

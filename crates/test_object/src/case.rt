@@ -14,7 +14,7 @@ use crate::programs::Programs;
 use crate::reports::Reports;
 use crate::setups::Setups;
 use crate::told::Told;
-use std::alloc::{AllocError, Global};
+use std::alloc::Global;
 
 /// A case of one kind, with what its calls so far have made.
 pub trait Case {
@@ -22,21 +22,15 @@ pub trait Case {
     fn answer(&mut self, word: &str, line: &mut Line<'_>, told: &mut Told) -> Result<(), Fault>;
 }
 
-/// A case's lines, and what came of them.
-pub fn tell(alloc: Global, text: &str) -> Result<String, AllocError> {
-    let mut told = Told::new(alloc);
+/// Tells a case's lines, and what came of them.
+pub fn tell(alloc: Global, text: &str, told: &mut Told) {
     let (head, lines) = cut(text, "\n");
-    begin(alloc, head, lines, &mut told);
-    told.say("\n\n");
-    told.into_text()
-}
-
-fn begin(alloc: Global, head: &str, lines: &str, told: &mut Told) {
     told.say(head);
     match Line::new(head).next() {
         Some(kind) => go_through(alloc, kind, lines, told),
         None => told.say(": no kind"),
     }
+    told.say("\n\n");
 }
 
 fn go_through(alloc: Global, kind: &str, lines: &str, told: &mut Told) {

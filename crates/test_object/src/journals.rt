@@ -33,15 +33,13 @@ struct Cell {
     value: u32,
 }
 
-/// What the audit of a journal finds, behind its name.
-pub fn tell(alloc: Global, journal: &str) -> Result<String, AllocError> {
-    let mut told = Told::new(alloc);
+/// Tells what the audit of a journal finds, behind its name.
+pub fn tell(alloc: Global, journal: &str, told: &mut Told) {
     match journal.split_once("\n") {
-        Some((head, lines)) => tell_named(alloc, head, Some(lines), &mut told),
-        None => tell_named(alloc, journal, None, &mut told),
+        Some((head, lines)) => tell_named(alloc, head, Some(lines), told),
+        None => tell_named(alloc, journal, None, told),
     }
     told.say("\n");
-    told.into_text()
 }
 
 fn tell_named(alloc: Global, head: &str, lines: Option<&str>, told: &mut Told) {
@@ -64,9 +62,14 @@ fn tell_number(before: &str, number: u64, told: &mut Told) {
 
 fn verdict_of(alloc: Global, options: &str, lines: Option<&str>) -> Result<Verdicts, Fault> {
     let setting = setting_of(options)?;
-    let text = text_of(alloc, lines, &setting)?;
-    let (config, frames) = opened(alloc, &setting)?;
-    Ok(audit(alloc, config, frames, text.as_slice())?)
+    let mut text = Vec::new(alloc);
+    fill(&mut text, lines, &setting)?;
+    audited(alloc, &setting, text.as_slice())
+}
+
+fn audited(alloc: Global, setting: &Setting, text: &[u8]) -> Result<Verdicts, Fault> {
+    let (config, frames) = opened(alloc, setting)?;
+    Ok(audit(alloc, config, frames, text)?)
 }
 
 fn setting_of(options: &str) -> Result<Setting, Fault> {
@@ -139,16 +142,15 @@ fn set_cell(config: &mut Config, cell: Cell) -> Result<(), Fault>
     Ok(())
 }
 
-/// The lines as often as they stand, each with its line feed but the last, where that is cut.
-fn text_of(alloc: Global, lines: Option<&str>, setting: &Setting) -> Result<Vec<u8>, AllocError> {
-    let mut text = Vec::new(alloc);
+/// Puts the lines into a text as often as they stand, each with its line feed but the last, where that is cut.
+fn fill(text: &mut Vec<u8>, lines: Option<&str>, setting: &Setting) -> Result<(), AllocError> {
     if let Some(lines) = lines {
-        append(&mut text, lines.as_bytes(), setting.times)?;
+        append(text, lines.as_bytes(), setting.times)?;
     }
     if setting.cut {
         let _last = text.pop();
     }
-    Ok(text)
+    Ok(())
 }
 
 fn append(text: &mut Vec<u8>, lines: &[u8], times: u32) -> Result<(), AllocError> {

@@ -45,69 +45,13 @@ mod words;
 mod written;
 
 use crate::line::cut;
-use std::alloc::AllocError;
+use crate::told::Told;
+use std::alloc::{AllocError, Global};
 use std::io::{self, Print};
 
 fn main(rt: HostRuntime) -> io::Result<()> {
     let text = io::read_to_string(rt.alloc(), rt.reader())?;
-    print_all(&rt, text.as_str())
-}
-
-fn print_all<R: Print + AllocGlobal>(rt: &R, text: &str) -> io::Result<()> {
-    let (values, scripts) = cut(text, "\n# scripts\n");
-    let (cases, journals) = cut(values, "\n# ");
-    print_cases(rt, cases)?;
-    print_journals(rt, journals)?;
-    print_scripts(rt, scripts)
-}
-
-/// Prints what comes of each case.
-fn print_cases<R: Print + AllocGlobal>(rt: &R, cases: &str) -> io::Result<()> {
-    for case in cases.split("\n\n") {
-        print_case(rt, case)?;
-    }
-    Ok(())
-}
-
-/// Prints what comes of a case. An empty text is none.
-fn print_case<R: Print + AllocGlobal>(rt: &R, case: &str) -> io::Result<()> {
-    if case.is_empty() {
-        return Ok(());
-    }
-    print_told(rt, case::tell(rt.alloc(), case))
-}
-
-/// Prints what the audit of each journal finds.
-fn print_journals<R: Print + AllocGlobal>(rt: &R, journals: &str) -> io::Result<()> {
-    for journal in journals.split("\n# ") {
-        print_journal(rt, journal)?;
-    }
-    Ok(())
-}
-
-/// Prints what the audit of a journal finds. An empty text is none.
-fn print_journal<R: Print + AllocGlobal>(rt: &R, journal: &str) -> io::Result<()> {
-    if journal.is_empty() {
-        return Ok(());
-    }
-    print_told(rt, journals::tell(rt.alloc(), journal))
-}
-
-/// Prints what comes of each script.
-fn print_scripts<R: Print + AllocGlobal>(rt: &R, scripts: &str) -> io::Result<()> {
-    let (_, first) = cut(scripts, "\nscript ");
-    for script in first.split("\nscript ") {
-        print_script(rt, scripts, script)?;
-    }
-    Ok(())
-}
-
-/// Prints what comes of a script. An empty text is none.
-fn print_script<R: Print + AllocGlobal>(rt: &R, scripts: &str, script: &str) -> io::Result<()> {
-    if script.is_empty() {
-        return Ok(());
-    }
-    print_told(rt, blocks::told(rt.alloc(), scripts, script))
+    print_told(&rt, tell_all(rt.alloc(), text.as_str()))
 }
 
 /// Prints a text, if there was memory for it.
@@ -115,5 +59,44 @@ fn print_told<R: Print>(rt: &R, told: Result<String, AllocError>) -> io::Result<
     match told {
         Ok(text) => rt.print(text.as_str()),
         Err(_) => rt.print("want of memory\n"),
+    }
+}
+
+/// What comes of all cases, journals and scripts.
+fn tell_all(alloc: Global, text: &str) -> Result<String, AllocError> {
+    let (values, scripts) = cut(text, "\n# scripts\n");
+    let (cases, journals) = cut(values, "\n# ");
+    let mut told = Told::new(alloc);
+    tell_cases(alloc, cases, &mut told);
+    tell_journals(alloc, journals, &mut told);
+    tell_scripts(alloc, scripts, &mut told);
+    told.into_text()
+}
+
+/// Tells what comes of each case. An empty text is none.
+fn tell_cases(alloc: Global, cases: &str, told: &mut Told) {
+    for case in cases.split("\n\n") {
+        if !case.is_empty() {
+            case::tell(alloc, case, told);
+        }
+    }
+}
+
+/// Tells what the audit of each journal finds. An empty text is none.
+fn tell_journals(alloc: Global, journals: &str, told: &mut Told) {
+    for journal in journals.split("\n# ") {
+        if !journal.is_empty() {
+            journals::tell(alloc, journal, told);
+        }
+    }
+}
+
+/// Tells what comes of each script. An empty text is none.
+fn tell_scripts(alloc: Global, scripts: &str, told: &mut Told) {
+    let (_, first) = cut(scripts, "\nscript ");
+    for script in first.split("\nscript ") {
+        if !script.is_empty() {
+            blocks::tell(alloc, scripts, script, told);
+        }
     }
 }
