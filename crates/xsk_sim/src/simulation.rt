@@ -1,6 +1,7 @@
 //! A whole simulation: from a configuration and packets to what was sent and the log.
-ghost use Rattle.std.specs.Prelude.{◌≡◌, ◌<◌, ◌≤◌, ◌+◌, ◌⊎◌, ℕ, IsTrue, false, None, Err, List, [], All, IfSome, IfOk, OnOk, length, map, vec_len};
-ghost use Rattle.std.specs.List.{concat, slice_index_or};
+ghost use Rattle.std.specs.Prelude.{◌≡◌, ◌<◌, ◌≤◌, ◌+◌, ℕ, IsTrue, None, Err, List, [], All, IfOk, OnOk, length, map, vec_capacity, vec_len};
+ghost use Rattle.std.specs.List.{slice_index_or};
+ghost use Rattle.std.specs.Vec.Iter.{into_iter_items};
 ghost use Rattle.xsk_umem.specs.Geometry.{IsGeometry};
 ghost use Rattle.xsk_model.specs.Config.{IsRegular, callers_of, classes_of};
 ghost use Rattle.xsk_model.specs.Opening.{AreFrames, IsOpened};
@@ -14,23 +15,23 @@ ghost use Rattle.xsk_driver.specs.Asking.{IsAnswer};
 ghost use Rattle.xsk_machine.specs.Workers.{AreNew, IsAskedOnce, setting_by};
 ghost use Rattle.xsk_driver.specs.Sent.{IsShort};
 ghost use Rattle.xsk_sim.specs.Shown.{HasShortPackets, packets_in, shown_by};
-ghost use Rattle.xsk_turns.specs.Stepping.{joined_ask};
 ghost use Rattle.xsk_prog.specs.Chain.{AllObey, SamePrograms};
 ghost use Rattle.xsk_turns.specs.Workers.{Setting, AreGiven};
 ghost use Rattle.xsk_sim.specs.Runs.{HasEnded, HasStalled, NeverStill, HasEndedUnder, HasStalledUnder};
 ghost use Rattle.xsk_sim.specs.Stalls.{StandStill};
 ghost use Rattle.xsk_still.specs.Still.{HasAmpleRoom};
-ghost use Rattle.xsk_sim.specs.Seats.{EachFrom, AreSeated, AreReady, AreSet, HadRounds, HaveEnded, Sits, kept_lists, kept_figures, new_own};
+ghost use Rattle.xsk_sim.specs.Seats.{AreSeated, AreReady, AreSet, HadRounds, HaveEnded, kept_lists, kept_figures};
 
 use crate::order::Order;
 use crate::rounds::Workers;
 use crate::seat::Seat;
 use std::alloc::Global;
 use std::marker::Model;
+use std::vec::IntoIter;
 use thiserror::Error;
 use xsk_driver::{Driver, Wire};
 use xsk_log::{Lines, Log};
-use xsk_machine::{Collected, Figures, Inputs, Sent, drivers_for, worker_of};
+use xsk_machine::{AnyWorker, Collected, Figures, Inputs, Sent, drivers_for, worker_of};
 use xsk_model::Config;
 use xsk_plain::Plain;
 use xsk_prog::{Chain, Verdict};
@@ -167,9 +168,15 @@ pub fn simulate<F: Fn(&[u8], u32) -> Verdict>(
         → HasStalledUnder F.Fn chain.old wire manner config packets.now frames.items order round }
     ensures goes_on { HasAmpleRoom config → config.closing ≡ None → manner ≡ plain_manner → (round : ℕ) → result ≡ Err (SimError.Stalled round) → ⊥ }
 {
-    let shared = config.copy(alloc)?;
-    let inputs = Inputs::split(alloc, &shared, packets)?;
-    let workers = all_workers(alloc, &shared, packets, &inputs, chain, wire, manner)?;
+    let Ok(shared) = config.copy(alloc) else {
+        return Err(SimError::OutOfMemory);
+    };
+    let Ok(inputs) = Inputs::split(alloc, &shared, packets) else {
+        return Err(SimError::OutOfMemory);
+    };
+    let Ok(workers) = all_workers(alloc, &shared, packets, &inputs, chain, wire, manner) else {
+        return Err(SimError::OutOfMemory);
+    };
     let _geometry = shared.geometry();
     run_workers(
         alloc,
@@ -206,8 +213,7 @@ fn all_workers<'a, F: Fn(&[u8], u32) -> Verdict>(
     ensures obeys { AllObey F.Fn chain.new }
 {
     let drivers = drivers_for(alloc, config, packets, inputs, chain, wire)?;
-    let workers = seat_workers(alloc, config, drivers, manner)?;
-    Ok(workers)
+    seat_workers(alloc, config, drivers, manner)
 }
 
 /// Opens the object, and lets the workers run on it until all have ended.
@@ -260,7 +266,9 @@ fn run_to_end(
     let mut workers = workers;
     make_rounds(&mut workers, plain, order)?;
     let calls = u64::from(plain.log().len());
-    let kept = collect(alloc, workers, classes)?;
+    let Ok(kept) = collect(alloc, workers, classes) else {
+        return Err(SimError::OutOfMemory);
+    };
     Ok(kept.into_sent(calls, wire, manner.mangle.is_some()))
 }
 
@@ -311,19 +319,35 @@ fn seat_workers<'a>(
     requires regular { IsRegular config.now }
     requires count { length drivers.items ≡ length config.now.pairs }
     requires new { (s : Setting) × (s.config ≡ config.now) × (s.manner ≡ manner) × AreNew s 0 drivers.items }
-    ensures count { IfOk result (λ workers. vec_len workers.seats ≡ callers_of config.now) }
-    ensures settled { IfOk result (λ workers. EachFrom workers.seats.items 0 (λ who seat. seat.settled ≡ 0)) }
-    ensures seated { (s : Setting) → s.config ≡ config.now → s.manner ≡ manner → AreNew s 0 drivers.entry.items
-        → IfOk result (λ workers. EachFrom workers.seats.items 0 (λ who seat. Sits s new_own who seat.machine (joined_ask seat.ask seat.items))) }
+    ensures { (s : Setting) → s.config ≡ config.now → s.manner ≡ manner → AreNew s 0 drivers.entry.items → IfOk result (AreSet s) }
 {
-    let callers = config.callers();
-    let mut seats = Vec::with_capacity(alloc, callers as usize)?;
+    let mut seats = Vec::with_capacity(alloc, config.callers() as usize)?;
     let mut drivers = drivers.into_iter();
-    for who in 0..callers {
-        let worker = worker_of(alloc, config, drivers.next(), who, manner)?;
-        seats.push(Seat::new(worker))?;
-    }
+    take_seats(alloc, config, &mut drivers, manner, &mut seats)?;
     Ok(Workers { seats })
+}
+
+/// Seats each caller, of which these are the drivers. There is a place for each.
+fn take_seats<'a>(
+    alloc: Global,
+    config: &'a Config,
+    drivers: &mut IntoIter<Driver<'a>>,
+    manner: Manner,
+    seats: &mut Vec<Seat<AnyWorker<'a>>>,
+) -> Result<(), OutOfMemory>
+    requires regular { IsRegular config.now }
+    requires count { length config.now.pairs ≤ length (into_iter_items drivers.old) }
+    requires new { (s : Setting) × (s.config ≡ config.now) × (s.manner ≡ manner) × AreNew s 0 (into_iter_items drivers.old) }
+    requires none { seats.old.items ≡ [] }
+    requires room { callers_of config.now ≤ vec_capacity seats.old }
+    ensures { (s : Setting) → s.config ≡ config.now → s.manner ≡ manner → AreNew s 0 (into_iter_items drivers.old)
+        → OnOk result (AreSet s (record { seats = seats.new })) }
+{
+    for who in 0..config.callers() {
+        let worker = worker_of(alloc, config, drivers.next(), who, manner)?;
+        seats.push_reserved(Seat::new(worker));
+    }
+    Ok(())
 }
 
 /// What is kept of workers that have ended, each of whose queues has so many sockets.
@@ -331,10 +355,19 @@ fn collect(alloc: Global, workers: Workers<'_>, classes: u32) -> Result<Collecte
     ensures sent { IfOk result (λ kept. map packets_in kept.sent.items ≡ kept_lists workers.entry) }
     ensures figures { IfOk result (λ kept. kept.figures.items ≡ kept_figures classes workers.entry) }
 {
-    let Workers { seats } = workers;
-    let mut kept = Collected::with_room(alloc, seats.len())?;
-    for seat in seats {
+    let mut kept = Collected::with_room(alloc, workers.seats.len())?;
+    keep_all(&mut kept, workers, classes);
+    Ok(kept)
+}
+
+/// Keeps what is left of workers that have ended, for each of which there is room.
+fn keep_all(kept: &mut Collected, workers: Workers<'_>, classes: u32)
+    requires none { (kept.old.sent.items ≡ []) × (kept.old.figures.items ≡ []) }
+    requires room { (vec_len workers.seats ≤ vec_capacity kept.old.sent) × (vec_len workers.seats ≤ vec_capacity kept.old.figures) }
+    ensures sent { map packets_in kept.new.sent.items ≡ kept_lists workers.entry }
+    ensures figures { kept.new.figures.items ≡ kept_figures classes workers.entry }
+{
+    for seat in workers.seats {
         kept.keep(seat.into_machine(), classes);
     }
-    Ok(kept)
 }

@@ -29,9 +29,9 @@ returns-clause-ended c s frames regular seated classes wire manner =
     c.in_ok-make_rounds.ensures.ended s frames seated in
     let had : HadRounds s frames c.args.order.number ended.0 w engine = ended.2 in
     let calls : c.from-calls.result ≡ length engine.log = c.from-calls.ensures ∙ c.len.ensures ∙ log_count c.log.result.now ∙ ap length c.log.ensures.entries in
-    let figures = ap (λ (x : SentShown). x.figures) c.into_sent.ensures ∙ ap (λ (ds : List DriverFigures). whole_of c.from-calls.result c.args.wire ds c.is_some.result) c.in_ok-kept.ensures.figures in
+    let figures = ap (λ (x : SentShown). x.figures) c.into_sent.ensures ∙ ap (λ (ds : List DriverFigures). whole_of c.from-calls.result c.args.wire ds c.is_some.result) c.in-Ok.ensures.figures in
     ended_run s frames c.args.order.number ended.0 w engine _ c.args.classes c.from-calls.result c.args.wire c.is_some.result regular had ended.1 ended.4 ended.3 refl
-    (ap (λ (x : SentShown). x.lists) c.into_sent.ensures ∙ c.in_ok-kept.ensures.sent) classes calls (search rules) figures wire (c.is_some.ensures ∙ ap (λ (m : Manner). is_some m.mangle) manner)
+    (ap (λ (x : SentShown). x.lists) c.into_sent.ensures ∙ c.in-Ok.ensures.sent) classes calls (search rules) figures wire (c.is_some.ensures ∙ ap (λ (m : Manner). is_some m.mangle) manner)
 
 pub returns-clause-lists : goal.returns-clause-lists
 returns-clause-lists c s frames seated =
@@ -40,7 +40,7 @@ returns-clause-lists c s frames seated =
     let ended : (count : ℕ) × (count ≤ 18446744073709551616) × HadRounds s frames c.args.order.number count w engine × HaveEnded w × NeverStill s frames c.args.order.number count =
     c.in_ok-make_rounds.ensures.ended s frames seated in
     let had : HadRounds s frames c.args.order.number ended.0 w engine = ended.2 in (
-      ap (length {A = List (List ℕ)}) (ap (λ (x : SentShown). x.lists) c.into_sent.ensures ∙ c.in_ok-kept.ensures.sent) ∙ lists_kept s frames had.history w engine had.seated,
+      ap (length {A = List (List ℕ)}) (ap (λ (x : SentShown). x.lists) c.into_sent.ensures ∙ c.in-Ok.ensures.sent) ∙ lists_kept s frames had.history w engine had.seated,
       had.seated.run.config,
     )
 
@@ -53,5 +53,5 @@ into_sent-requires c =
     let ended : (count : ℕ) × (count ≤ 18446744073709551616) × HadRounds s r.frames c.args.order.number count w engine × HaveEnded w × NeverStill s r.frames c.args.order.number count =
     c.in_ok-make_rounds.ensures.ended s r.frames r.seated in
     let had : HadRounds s r.frames c.args.order.number ended.0 w engine = ended.2 in
-    let all : length c.in_ok-kept.kept.figures.items ≡ length s.config.pairs = ap (length {A = DriverFigures}) c.in_ok-kept.ensures.figures ∙ figures_number s r.frames had.history w engine had.seated c.args.classes in
-    omega (arith, all, c.in_ok-kept.kept.figures.ok.0, had.seated.run.legal.opened.config.pairs_few)
+    let all : length c.in-Ok.kept.figures.items ≡ length s.config.pairs = ap (length {A = DriverFigures}) c.in-Ok.ensures.figures ∙ figures_number s r.frames had.history w engine had.seated c.args.classes in
+    omega (arith, all, c.in-Ok.kept.figures.ok.0, had.seated.run.legal.opened.config.pairs_few)

@@ -24,9 +24,9 @@ returns-clause-turn c s frames h seated =
       turns = one_turn (IsWholeRun s) h who t.entries t.turn;
       seated = record {
         run = t.run;
-        seats = each_set w.seats.items 0 who who _ _ v seated.seats (omega arith)
+        seats = each_set w.seats.items 0 who who (λ k x. Sits s (own_in h) k x.machine (joined_ask x.ask x.items)) (λ k x. Sits s (own_in (h ++ t.entries)) k x.machine (joined_ask x.ask x.items)) v seated.seats (omega arith)
             (λ k x other sits. sits_on s h (h ++ t.entries) k x.machine (joined_ask x.ask x.items) (own_turn (IsWholeRun s) h who k t.entries t.turn other) sits) (t.stands, t.after);
-        noted = each_set w.seats.items 0 who who _ _ v seated.noted (omega arith)
+        noted = each_set w.seats.items 0 who who (λ k x. IsNoted s h k x.settled) (λ k x. IsNoted s (h ++ t.entries) k x.settled) v seated.noted (omega arith)
             (λ k x other is. noted_on s h (h ++ t.entries) k x.settled (own_turn (IsWholeRun s) h who k t.entries t.turn other) is) tells.1;
         count = seated.count;
       };

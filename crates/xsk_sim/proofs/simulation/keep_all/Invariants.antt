@@ -3,7 +3,7 @@ use Rattle.std.specs.Prelude.{flat_map}
 use Rattle.std.specs.Vec.Iter.{into_iter_items}
 use Rattle.xsk_machine.specs.Acts.{packets_in}
 use Rattle.xsk_machine.specs.Workers.{kept_of, figures_kept}
-use Rattle.xsk_sim.proofs.simulation.collect.Given as goal
+use Rattle.xsk_sim.proofs.simulation.keep_all.Given as goal
 
 abbrev pub invariant-loop-seat : goal.invariant-loop-seat
 invariant-loop-seat l = record {

@@ -6,7 +6,7 @@ use Rattle.xsk_machine.specs.Acts.{packets_in}
 use Rattle.xsk_machine.specs.Workers.{kept_of, figures_kept}
 use Rattle.xsk_machine.specs.declared.figures.DriverFigures.{DriverFigures}
 use Rattle.xsk_sim.proofs.Ending.{list_few, figures_few, flat_more}
-use Rattle.xsk_sim.proofs.simulation.collect.Goals as goal
+use Rattle.xsk_sim.proofs.simulation.keep_all.Goals as goal
 
 pub keep-requires-clause-figures : goal.keep-requires-clause-figures
 keep-requires-clause-figures c =
