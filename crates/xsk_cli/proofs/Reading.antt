@@ -1,19 +1,22 @@
 -- The inputs, read one after another.
-use Rattle.std.proofs.Common.{◌≡◌, ℕ, ◌+◌, ◌<◌, ◌≤◌, ltb, true, false, List, [], ◌∷◌, ◌++◌, length, get_or, map, refl, sym, ap, ◌∙◌, subst, ⊎_elim, arith, length-append, Option, Some}
-use Rattle.std.specs.Prelude.{◌≢◌, IfSome, IfErr, Result, Err}
+use Rattle.std.proofs.Common.{◌≡◌, ℕ, ◌+◌, ◌<◌, ◌≤◌, ltb, true, false, List, [], ◌∷◌, ◌++◌, length, get_or, map, refl, sym, ap, ◌∙◌, subst, ⊎_elim, inl, inr, arith, length-append, Option, Some}
+use Rattle.std.specs.Prelude.{◌≢◌, ◌⊎◌, IfSome, IfErr, Result, Ok, Err}
 use Rattle.std.specs.Io.KnownBytes.{IsAtEnd}
 use Rattle.std.proofs.lemmas.Bool.{cases_eq}
 use Rattle.std.proofs.lemmas.List.{get_or-map, length-map}
 use Rattle.xsk_io.specs.Bay.{Adds, CountsOnly, Rose, Same, SameBut, Moment}
 use Rattle.xsk_io.proofs.Steps.{Adds-none, Rose-earlier, Same-then, SameBut-then}
+use Rattle.xsk_io.specs.declared.bay.Kind.{Kind}
 use Rattle.xsk_io.specs.declared.bay.Kind.TheVariants.{Open, Read}
+use Rattle.xsk_io.specs.declared.whole.ReadError.{ReadError}
+use Rattle.xsk_io.specs.declared.whole.ReadError.TheVariants.{TooLong as Long, Fault as Faulted, OutOfMemory as OutOfRoom}
 use Rattle.xsk_io.specs.declared.bay.Stream.{Stream}
 use Rattle.xsk_io.specs.declared.bay.Stream.TheVariants.{Input, Output, Report}
-use Rattle.xsk_cli.specs.Cause.{IsCaused, NeverFalls}
+use Rattle.xsk_cli.specs.Cause.{IsCaused, NeverFalls, NoOthers, Unchanged}
 use Rattle.xsk_cli.specs.Ends.{ComesOf, Ends}
 use Rattle.xsk_cli.specs.Outcome.{Written}
 use Rattle.xsk_cli.specs.Streams.{IsTold, at_input, Reaches, AreRead, AreWritten, IsReported, Touched, name_of}
-use Rattle.xsk_cli.specs.Steps.{FailsReading, HaveRead, args_status, read_status}
+use Rattle.xsk_cli.specs.Steps.{FailsReading, HaveRead, args_status, read_status, unread_by}
 use Rattle.xsk_args.specs.declared.error.ArgsError.{ArgsError}
 use Rattle.xsk_args.specs.declared.error.ArgsError.TheVariants.{Usage as IsUsage, OutOfMemory as ArgsMemory}
 use Rattle.xsk_cli.specs.Words.{Plan, fault_in, most_of}
@@ -23,7 +26,7 @@ use Rattle.xsk_cli.specs.declared.failure.ReadFailure.TheVariants.{Unopened, Unr
 use Rattle.xsk_cli.specs.declared.status.Excess.TheVariants.{Input as LongInput}
 use Rattle.xsk_cli.specs.declared.status.Status.{Status}
 use Rattle.xsk_cli.specs.declared.status.Status.TheVariants.{Usage, ReadFault, OpenFault, Refused, TooMuch, OutOfMemory}
-use Rattle.xsk_cli.proofs.Counting.{never_falls_by, never_falls_then}
+use Rattle.xsk_cli.proofs.Counting.{but_its_own, never_falls_by, never_falls_then, none_of_it}
 use Rattle.xsk_cli.proofs.Ports.{step, push_each, none_below, not_below_itself, below_next, below_as_before}
 
 pub asked_only : (one : Stream) (old new : Moment) → SameBut one old.is_open new.is_open → SameBut one old.asked new.asked → Same old.left new.left → SameBut one old.held new.held → Same old.offers new.offers
@@ -48,6 +51,31 @@ Touched-then one old mid new first opened asked left held offers falls = record 
   offers = Same-then old.offers mid.offers new.offers first.offers offers;
   falls = never_falls_then old.faults mid.faults new.faults first.falls falls;
 }
+
+-- ---- an open input that wasn't read to its end
+
+kept_else : {A P : Type 0} (answer : Result A ReadError) (error : ReadError) → answer ≡ Err error → (error ≡ Faulted → ⊥) → (answer ≡ Err Faulted) ⊎ P → P
+kept_else answer error is other (inl fault) = absurd (other (let e : error ≡ Faulted = cc in e))
+kept_else answer error is other (inr kept) = kept
+
+pub kept_by : {A P : Type 0} (answer : Result A ReadError) (bytes : A) → answer ≡ Ok bytes → (answer ≡ Err Faulted) ⊎ P → P
+kept_by answer bytes is (inl fault) = absurd (let no : ⊥ = cc in no)
+kept_by answer bytes is (inr kept) = kept
+
+pub unread_fails : {A : Type 0} (most port : ℕ) (old mid new : Moment) (answer : Result A ReadError) (error : ReadError) → answer ≡ Err error → new.is_open (Input port) ≡ true → mid.left (Input port) ≡ old.left (Input port)
+    → (answer ≡ Err Long → IfSome (mid.left (Input port)) (λ all. most < length all)) → old.faults Read (Input port) ≤ mid.faults Read (Input port)
+    → (answer ≡ Err Faulted → Rose (mid.faults Read (Input port)) (new.faults Read (Input port))) → FailsReading most port old new (unread_by port error)
+unread_fails most port old mid new answer Long is is_open same long low caused = (refl, is_open, subst (λ l. IfSome l (λ all. most < length all)) same (long is))
+unread_fails most port old mid new answer Faulted is is_open same long low caused = (refl, is_open, Rose-earlier _ _ _ low (caused is))
+unread_fails most port old mid new answer OutOfRoom is is_open same long low caused = is_open
+
+pub unread_others : {A : Type 0} (port : ℕ) (old mid new : Kind → Stream → ℕ) (answer : Result A ReadError) (error : ReadError) → answer ≡ Err error → Unchanged old mid → CountsOnly Read (Input port) mid new
+    → (answer ≡ Err Faulted) ⊎ (new Read (Input port) ≡ mid Read (Input port)) → NoOthers old new (read_status (unread_by port error))
+unread_others port old mid new answer Long is first counts kept kind stream other =
+    none_of_it Read (Input port) mid new counts (kept_else answer Long is (λ e. cc) kept) kind stream ∙ first kind stream
+unread_others port old mid new answer Faulted is first counts kept kind stream other = but_its_own Read (Input port) mid new counts kind stream other ∙ first kind stream
+unread_others port old mid new answer OutOfRoom is first counts kept kind stream other =
+    none_of_it Read (Input port) mid new counts (kept_else answer OutOfRoom is (λ e. cc) kept) kind stream ∙ first kind stream
 
 pub other_input : (port n : ℕ) → (port ≡ n → ⊥) → Input port ≢ Input n
 other_input port n h e = h (let i : port ≡ n = cc in i)

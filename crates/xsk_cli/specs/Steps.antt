@@ -6,6 +6,8 @@ use Rattle.xsk_io.specs.Bay.{Adds, GrowsByPart, IsOffered, Rose, Same, Moment}
 use Rattle.xsk_io.specs.declared.bay.Kind.{Kind}
 use Rattle.xsk_io.specs.declared.bay.Kind.TheVariants.{Open, Read, Write}
 use Rattle.xsk_io.specs.declared.bay.Stream.TheVariants.{Input, Output, Report}
+use Rattle.xsk_io.specs.declared.whole.ReadError.{ReadError}
+use Rattle.xsk_io.specs.declared.whole.ReadError.TheVariants.{TooLong as IsTooLong, Fault as IsFault, OutOfMemory as IsOutOfMemory}
 use Rattle.xsk_pcap.specs.Capture.{IsRefused}
 use Rattle.xsk_pcap.specs.Written.{IsWritable}
 use Rattle.xsk_pcap.specs.declared.reading.BadCapture.TheVariants.{OutOfMemory as NoCause}
@@ -119,6 +121,12 @@ FailsReading most port old new (NoInput at) = (at ≡ port) × (new.is_open (Inp
 FailsReading most port old new (Unread at) = (at ≡ port) × (new.is_open (Input port) ≡ true) × Rose (old.faults Read (Input port)) (new.faults Read (Input port))
 FailsReading most port old new (TooLong at) = (at ≡ port) × (new.is_open (Input port) ≡ true) × IfSome (old.left (Input port)) (λ bytes. most < length bytes)
 FailsReading most port old new NoRoom = new.is_open (Input port) ≡ true
+
+-- why an open input wasn't read to its end
+abbrev pub unread_by : ℕ → ReadError → ReadFailure
+unread_by port IsTooLong = TooLong port
+unread_by port IsFault = Unread port
+unread_by port IsOutOfMemory = NoRoom
 
 -- the first inputs were read to their ends, none of more bytes than the most, and nothing else was opened or written
 pub record HaveRead (most : ℕ) (names bytes : List (List ℕ)) (count : ℕ) (old new : Moment) : Type 0 where

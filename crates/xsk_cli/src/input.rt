@@ -3,7 +3,7 @@ ghost use Rattle.std.specs.Prelude.{◌≡◌, ◌<◌, ◌≤◌, false, length
 ghost use Rattle.xsk_io.specs.Bay.{Same, NoneOpen};
 ghost use Rattle.xsk_cli.specs.Cause.{IsCaused, NeverFalls, NoOthers, Unchanged};
 ghost use Rattle.xsk_cli.specs.Ends.{Ends};
-ghost use Rattle.xsk_cli.specs.Steps.{FailsReading, HaveRead, read_status};
+ghost use Rattle.xsk_cli.specs.Steps.{FailsReading, HaveRead, read_status, unread_by};
 ghost use Rattle.xsk_cli.specs.Streams.{IsRead, IsTold, Touched};
 ghost use Rattle.xsk_cli.specs.Words.{Plan, most_of};
 
@@ -56,13 +56,23 @@ fn read_input<B: Bay>(
     ensures touched { Touched (Stream.Input port) (B.moment bay.old) (B.moment bay.new) }
 {
     let stream = Stream::Input(port);
-    if bay.open(stream, name).is_err() {
-        return Err(ReadFailure::Unopened(port));
+    match bay.open(stream, name) {
+        Ok(()) => {}
+        Err(_) => return Err(ReadFailure::Unopened(port)),
     }
     match read_whole(alloc, bay, stream, most) {
         Ok(bytes) => Ok(bytes),
-        Err(ReadError::TooLong) => Err(ReadFailure::TooLong(port)),
-        Err(ReadError::Fault) => Err(ReadFailure::Unread(port)),
-        Err(ReadError::OutOfMemory) => Err(ReadFailure::OutOfMemory),
+        Err(error) => Err(unread(port, error)),
+    }
+}
+
+/// Why the open input of a port wasn't read to its end.
+fn unread(port: u32, error: ReadError) -> ReadFailure
+    ensures { result ≡ unread_by port error }
+{
+    match error {
+        ReadError::TooLong => ReadFailure::TooLong(port),
+        ReadError::Fault => ReadFailure::Unread(port),
+        ReadError::OutOfMemory => ReadFailure::OutOfMemory,
     }
 }
