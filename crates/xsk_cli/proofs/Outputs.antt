@@ -1,8 +1,8 @@
 -- The outputs, written one after another.
-use Rattle.std.proofs.Common.{◌≡◌, ℕ, ◌+◌, ◌<◌, ◌≤◌, ltb, true, false, List, [], Option, length, get_or, sym, ◌∙◌, subst, ⊎_elim, arith}
-use Rattle.std.specs.Prelude.{◌≢◌}
+use Rattle.std.proofs.Common.{◌≡◌, ℕ, ◌+◌, ◌<◌, ◌≤◌, ltb, true, false, List, [], ◌++◌, Option, Some, None, inl, inr, length, take, get_or, sym, ap, ◌∙◌, subst, ⊎_elim, arith}
+use Rattle.std.specs.Prelude.{◌≢◌, IfSome}
 use Rattle.std.proofs.lemmas.Bool.{cases_eq}
-use Rattle.xsk_io.specs.Bay.{Adds, AddsNoneBut, CountsOnly, IsOffered, Same, SameBut, Moment}
+use Rattle.xsk_io.specs.Bay.{Adds, AddsNoneBut, CountsOnly, Grows, GrowsByPart, IsOffered, Same, SameBut, Moment}
 use Rattle.xsk_io.proofs.Steps.{Adds-none, Adds-then, AddsNoneBut-then, IsOffered-later, IsOffered-earlier, Same-then, SameBut-then}
 use Rattle.xsk_io.specs.declared.bay.Kind.TheVariants.{Open}
 use Rattle.xsk_io.specs.declared.bay.Offer.{Offer}
@@ -16,7 +16,7 @@ use Rattle.xsk_cli.specs.declared.failure.WriteFailure.TheVariants.{Unopened, Un
 use Rattle.xsk_cli.proofs.Counting.{never_falls_by, never_falls_then}
 use Rattle.xsk_cli.proofs.Ports.{step, not_below_itself, below_next, below_as_before}
 
-no_offers : (f g : Stream → Option (List Offer)) (one : Stream) → Same f g → AddsNoneBut one f g
+pub no_offers : (f g : Stream → Option (List Offer)) (one : Stream) → Same f g → AddsNoneBut one f g
 no_offers f g one same stream other = subst (λ o. Adds (f stream) o []) (sym (same stream)) (Adds-none (f stream))
 
 -- a stream was opened, or asked for in vain
@@ -42,6 +42,17 @@ Rewritten-then one old mid new first opened asked left held offers falls = recor
   offers = AddsNoneBut-then one old.offers mid.offers new.offers first.offers offers;
   falls = never_falls_then old.faults mid.faults new.faults first.falls falls;
 }
+
+-- what an empty output holds that got a text, or a front of one
+pub whole_in : (mid new : Option (List ℕ)) (text : List ℕ) → IfSome mid (λ bytes. bytes ≡ []) → Grows mid new text → IsTold new text
+whole_in mid None text empty grows = tt
+whole_in mid (Some bytes) text empty (inl lost) = cc
+whole_in None (Some bytes) text empty (inr is) = cc
+whole_in (Some before) (Some bytes) text empty (inr is) = (let e : bytes ≡ before ++ text = cc in e) ∙ ap (λ b. b ++ text) empty
+
+pub front_in : (mid new : Option (List ℕ)) (text : List ℕ) → IfSome mid (λ bytes. bytes ≡ []) → GrowsByPart mid new text → IsFront new text
+front_in mid None text empty part = tt
+front_in mid (Some bytes) text empty part = (part.0, whole_in mid (Some bytes) (take part.0 text) empty part.2)
 
 other_output : (port n : ℕ) → (port ≡ n → ⊥) → Output port ≢ Output n
 other_output port n h e = h (let i : port ≡ n = cc in i)

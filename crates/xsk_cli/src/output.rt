@@ -39,10 +39,10 @@ pub(crate) fn write_texts<B: Bay, L: Leaves>(
     ensures kept { left.new ≡ left.old }
 {
     write_outputs(bay, names, left, &texts.outputs)?;
-    if write_whole(bay, Stream::Report, texts.report.as_slice()).is_err() {
-        return Err(WriteFailure::Unwritten(Stream::Report));
+    match write_whole(bay, Stream::Report, texts.report.as_slice()) {
+        Ok(()) => Ok(()),
+        Err(_) => Err(WriteFailure::Unwritten(Stream::Report)),
     }
-    Ok(())
 }
 
 /// Opens the outputs by their names and writes them, one after another.
@@ -136,11 +136,12 @@ fn write_output<B: Bay>(bay: &mut B, port: u32, name: &str, text: &[u8]) -> Resu
     ensures rewritten { Rewritten (Stream.Output port) (B.moment bay.old) (B.moment bay.new) }
 {
     let stream = Stream::Output(port);
-    if bay.open(stream, name).is_err() {
-        return Err(WriteFailure::Unopened(port));
+    match bay.open(stream, name) {
+        Ok(()) => {}
+        Err(_) => return Err(WriteFailure::Unopened(port)),
     }
-    if write_whole(bay, stream, text).is_err() {
-        return Err(WriteFailure::Unwritten(stream));
+    match write_whole(bay, stream, text) {
+        Ok(()) => Ok(()),
+        Err(_) => Err(WriteFailure::Unwritten(stream)),
     }
-    Ok(())
 }
