@@ -1,6 +1,7 @@
 pub mod Ports
 pub mod Reading
 pub mod Writing
+pub mod Chaining
 pub mod Judging
 pub mod Filing
 pub mod Going

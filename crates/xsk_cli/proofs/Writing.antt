@@ -186,7 +186,7 @@ none_come work inputs (BadFile cause) h = λ old. h
 
 -- ---- and then the line of a refusal, which changes the report alone
 
-silent_then : (old mid new : Moment) → IsSilent old mid → IsSilent mid new → IsSilent old new
+pub silent_then : (old mid new : Moment) → IsSilent old mid → IsSilent mid new → IsSilent old new
 silent_then old mid new first second = (second.0 ∙ first.0, Adds-then _ _ _ [] [] first.1 second.1)
 
 reported_still : (text : List ℕ) (old mid new : Moment) (status : Status) → IsReported text status old mid → ((HasLine status → ⊥) → IsSilent mid new) → IsReported text status old new

@@ -4,14 +4,17 @@ use Rattle.std.proofs.lemmas.List.{length-map}
 use Rattle.xsk_io.specs.Bay.{Moment}
 use Rattle.xsk_cli.specs.Ends.{ComesOf, EndsBy}
 use Rattle.xsk_cli.specs.Outcome.{Written}
-use Rattle.xsk_cli.specs.Steps.{AreFor, AreMade, HaveRead, plan_in, read_status, write_status, written_in}
-use Rattle.xsk_cli.specs.Streams.{AreWritten}
+use Rattle.xsk_cli.specs.Cause.{IsCaused, NoOthers}
+use Rattle.xsk_cli.specs.Steps.{AreFor, AreMade, HaveRead, plan_in, read_status, run_status, write_status, written_in}
+use Rattle.xsk_cli.specs.Streams.{AreWritten, HasLine, IsAtOnce, IsSilent}
 use Rattle.xsk_cli.specs.Words.{most_of}
 use Rattle.xsk_cli.specs.declared.status.Status.TheVariants.{Done, OpenFault, WriteFault}
 use Rattle.xsk_io.specs.declared.bay.Stream.TheVariants.{Output}
 use Rattle.xsk_cli.proofs.Making.{few_read}
 use Rattle.xsk_cli.proofs.Showing.{few_written, read_before}
-use Rattle.xsk_cli.proofs.Writing.{SameInputs, done_by, ends_as, inputs_for, unmade_by, unwritten_by}
+use Rattle.xsk_cli.proofs.Chaining.{caused_since, read_begun, run_begun, run_caused, silent_by, unwritten_silent, write_begun}
+use Rattle.xsk_cli.proofs.Counting.{never_falls_then, no_others_then, unchanged_then}
+use Rattle.xsk_cli.proofs.Writing.{SameInputs, done_by, ends_as, inputs_for, silent_then, unmade_by, unwritten_by}
 use Rattle.xsk_cli.proofs.chain.run_plan.Goals as goal
 
 pub read_inputs-requires-clause-few : goal.read_inputs-requires-clause-few
@@ -129,3 +132,84 @@ returns-in-Ok-write_texts-clause-ends g c =
     subst (λ n. AreWritten plan.outputs texts.outputs n n mid new) (sym count) c.in-Ok-write_texts.ensures.written in
     subst (λ l. EndsBy (g.M.Maker.comes plan.work (Some l)) plan old new Done) (sym c.write_texts.ensures.kept)
     (done_by plan bytes old mid new have comes texts same (are.comes old Done tt) writes c.in-Ok-write_texts.ensures.report c.in-Ok-write_texts.ensures.offered)
+
+-- ---- what is said of the report and of faults at each end
+
+pub returns-in-Err-clause-begun : goal.returns-in-Err-clause-begun
+returns-in-Err-clause-begun g c = subst (λ s. IsAtOnce s → ⊥) (sym c.from.ensures) (read_begun c.in-Err.failure)
+
+pub returns-in-Err-clause-silent : goal.returns-in-Err-clause-silent
+returns-in-Err-clause-silent g c has = silent_by (g.B.Bay.moment c.args.bay.now) (g.B.Bay.moment c.read_inputs.new.bay) c.read_inputs.ensures.report c.read_inputs.ensures.offers
+
+pub returns-in-Err-clause-cause : goal.returns-in-Err-clause-cause
+returns-in-Err-clause-cause g c = subst (IsCaused (g.B.Bay.moment c.args.bay.now).faults (g.B.Bay.moment c.read_inputs.new.bay).faults) (sym c.from.ensures) c.in-Err.ensures.cause
+
+pub returns-in-Err-clause-others : goal.returns-in-Err-clause-others
+returns-in-Err-clause-others g c = subst (NoOthers (g.B.Bay.moment c.args.bay.now).faults (g.B.Bay.moment c.read_inputs.new.bay).faults) (sym c.from.ensures) c.in-Err.ensures.others
+
+pub returns-in-Err-clause-falls : goal.returns-in-Err-clause-falls
+returns-in-Err-clause-falls g c = c.read_inputs.ensures.falls
+
+pub returns-in-Err-make-clause-begun : goal.returns-in-Err-make-clause-begun
+returns-in-Err-make-clause-begun g c = subst (λ s. IsAtOnce s → ⊥) (sym c.from-in-Err-make.ensures) (run_begun c.in-Err-make.field-0.failure)
+
+pub returns-in-Err-make-clause-silent : goal.returns-in-Err-make-clause-silent
+returns-in-Err-make-clause-silent g c has = silent_by (g.B.Bay.moment c.args.bay.now) (g.B.Bay.moment c.read_inputs.new.bay) c.read_inputs.ensures.report c.read_inputs.ensures.offers
+
+pub returns-in-Err-make-clause-cause : goal.returns-in-Err-make-clause-cause
+returns-in-Err-make-clause-cause g c =
+    let old : Moment = g.B.Bay.moment c.args.bay.now in
+    let mid : Moment = g.B.Bay.moment c.read_inputs.new.bay in
+    subst (IsCaused old.faults mid.faults) (sym c.from-in-Err-make.ensures) (run_caused old.faults mid.faults c.in-Err-make.field-0.failure)
+
+pub returns-in-Err-make-clause-others : goal.returns-in-Err-make-clause-others
+returns-in-Err-make-clause-others g c kind stream other = c.in-Ok.ensures.unchanged kind stream
+
+pub returns-in-Err-make-clause-falls : goal.returns-in-Err-make-clause-falls
+returns-in-Err-make-clause-falls g c = c.read_inputs.ensures.falls
+
+pub returns-clause-begun : goal.returns-clause-begun
+returns-clause-begun g c = subst (λ s. IsAtOnce s → ⊥) (sym c.from-in-Err-write_texts.ensures) (write_begun c.in-Err-write_texts.failure)
+
+pub returns-clause-silent : goal.returns-clause-silent
+returns-clause-silent g c =
+    let old : Moment = g.B.Bay.moment c.args.bay.now in
+    let mid : Moment = g.B.Bay.moment c.read_inputs.new.bay in
+    let new : Moment = g.B.Bay.moment c.write_texts.new.bay in
+    let before : IsSilent old mid = silent_by old mid c.read_inputs.ensures.report c.read_inputs.ensures.offers in
+    subst (λ s. HasLine s → IsSilent old new) (sym c.from-in-Err-write_texts.ensures)
+    (λ has. silent_then old mid new before (unwritten_silent _ _ mid new c.in-Err-write_texts.failure c.in-Err-write_texts.ensures.failed has))
+
+pub returns-clause-cause : goal.returns-clause-cause
+returns-clause-cause g c =
+    let old : Moment = g.B.Bay.moment c.args.bay.now in
+    let mid : Moment = g.B.Bay.moment c.read_inputs.new.bay in
+    let new : Moment = g.B.Bay.moment c.write_texts.new.bay in
+    subst (IsCaused old.faults new.faults) (sym c.from-in-Err-write_texts.ensures)
+    (caused_since old.faults mid.faults new.faults (write_status c.in-Err-write_texts.failure) c.read_inputs.ensures.falls c.in-Err-write_texts.ensures.cause)
+
+pub returns-clause-others : goal.returns-clause-others
+returns-clause-others g c =
+    let old : Moment = g.B.Bay.moment c.args.bay.now in
+    let mid : Moment = g.B.Bay.moment c.read_inputs.new.bay in
+    let new : Moment = g.B.Bay.moment c.write_texts.new.bay in
+    subst (NoOthers old.faults new.faults) (sym c.from-in-Err-write_texts.ensures)
+    (no_others_then old.faults mid.faults new.faults (write_status c.in-Err-write_texts.failure) c.in-Ok.ensures.unchanged c.in-Err-write_texts.ensures.others)
+
+pub returns-clause-falls : goal.returns-clause-falls
+returns-clause-falls g c = never_falls_then _ _ _ c.read_inputs.ensures.falls c.write_texts.ensures.falls
+
+pub returns-in-Ok-write_texts-clause-begun : goal.returns-in-Ok-write_texts-clause-begun
+returns-in-Ok-write_texts-clause-begun g c at_once = at_once
+
+pub returns-in-Ok-write_texts-clause-silent : goal.returns-in-Ok-write_texts-clause-silent
+returns-in-Ok-write_texts-clause-silent g c has = absurd has
+
+pub returns-in-Ok-write_texts-clause-cause : goal.returns-in-Ok-write_texts-clause-cause
+returns-in-Ok-write_texts-clause-cause g c = tt
+
+pub returns-in-Ok-write_texts-clause-others : goal.returns-in-Ok-write_texts-clause-others
+returns-in-Ok-write_texts-clause-others g c kind stream other = unchanged_then _ _ _ c.in-Ok.ensures.unchanged c.in-Ok-write_texts.ensures.unchanged kind stream
+
+pub returns-in-Ok-write_texts-clause-falls : goal.returns-in-Ok-write_texts-clause-falls
+returns-in-Ok-write_texts-clause-falls g c = never_falls_then _ _ _ c.read_inputs.ensures.falls c.write_texts.ensures.falls
