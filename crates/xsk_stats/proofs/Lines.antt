@@ -1,6 +1,7 @@
 -- How a text grows.
-use Rattle.std.proofs.Common.{◌≡◌, ◌∙◌, sym, ap, ℕ, suc, ◌+◌, List, [], ◌∷◌, ◌++◌, append_assoc, arith}
-use Rattle.std.specs.Prelude.{flat_map}
+use Rattle.std.proofs.Common.{◌≡◌, ◌∙◌, refl, sym, ap, ℕ, suc, ◌+◌, List, [], ◌∷◌, ◌++◌, append_assoc, arith}
+use Rattle.std.specs.Prelude.{flat_map, OnOk, Result, Ok, Err}
+use denote.Ref.{Bor}
 use Rattle.std.specs.List.{range_with_len}
 use Rattle.std.proofs.lemmas.List.{flat_map_more}
 use Rattle.xsk_model.specs.Config.{Config, pair_at, classes_of}
@@ -8,12 +9,29 @@ use Rattle.xsk_model.specs.declared.config.PairInfo.{PairInfo}
 use Rattle.xsk_model.proofs.Counting.{range-push}
 use Rattle.xsk_machine.specs.declared.figures.DriverFigures.{DriverFigures}
 use Rattle.xsk_machine.specs.declared.figures.Figures.{Figures}
-use Rattle.xsk_stats.specs.Report.{setting_line, calls_line, driver_line, pair_line, socket_lines, lines_of, total_line, stranded_line, totals_of, figures_at, report_text}
+use Rattle.xsk_stats.specs.Report.{numbered, put_behind, setting_line, calls_line, driver_line, pair_line, socket_lines, lines_of, total_line, stranded_line, totals_of, figures_at, report_text}
 use Rattle.xsk_stats.specs.declared.totals.Statistics.{Statistics}
 
 -- one piece after another
 pub after : (t a b u v : List ℕ) → u ≡ t ++ a → v ≡ u ++ b → v ≡ t ++ (a ++ b)
 after t a b u v e h = h ∙ ap (λ (text : List ℕ). text ++ b) e ∙ append_assoc t a b
+
+-- words with their numbers behind a text that ends in a piece
+behind : (t a : List ℕ) (numbers : List (Bor (List ℕ) × ℕ)) → put_behind (t ++ a) numbers ≡ t ++ put_behind a numbers
+behind t a [] = refl
+behind t a (number ∷ numbers) =
+    ap (λ (text : List ℕ). put_behind text numbers) (append_assoc t a (numbered number.0.now number.1)) ∙ behind t (a ++ numbered number.0.now number.1) numbers
+
+after_piece : (t a u v : List ℕ) (numbers : List (Bor (List ℕ) × ℕ)) → u ≡ t ++ a → v ≡ put_behind u numbers → v ≡ t ++ put_behind a numbers
+after_piece t a u v numbers e h = h ∙ ap (λ (text : List ℕ). put_behind text numbers) e ∙ behind t a numbers
+
+-- and what ends them
+pub line_after : (t a b u v w : List ℕ) (numbers : List (Bor (List ℕ) × ℕ)) → u ≡ t ++ a → v ≡ put_behind u numbers → w ≡ v ++ b → w ≡ t ++ (put_behind a numbers ++ b)
+line_after t a b u v w numbers e h k = after t (put_behind a numbers) b v w (after_piece t a u v numbers e h) k
+
+pub on_ok : {A E : Type 0} (r : Result A E) (P Q : Type 0) → (P → Q) → OnOk r P → OnOk r Q
+on_ok (Ok a) P Q f h = f h
+on_ok (Err e) P Q f h = tt
 
 one_more : (n : ℕ) → range_with_len 0 (n + 1) ≡ range_with_len 0 n ++ n ∷ []
 one_more n =

@@ -1,8 +1,9 @@
 -- The text of a report: the configuration that was run, what became of each driver's packets, and the statistics by their
 -- names in if_xdp.h, `struct xdp_statistics` (af_xdp.rst, "XDP_STATISTICS getsockopt"). That three of them are told of a
 -- pair of FILL and COMPLETION, since its sockets share these rings, and the form of the lines are this project's own.
-use Rattle.std.specs.Prelude.{ℕ, Bool, if◌then◌else◌, List, [], ◌++◌, length, take, sum, sum_by, flat_map, codes}
+use Rattle.std.specs.Prelude.{ℕ, Bool, if◌then◌else◌, List, [], ◌∷◌, ◌++◌, length, take, sum, sum_by, flat_map, codes}
 use Rattle.std.specs.Fmt.{decimal}
+use denote.Ref.{Bor}
 use Rattle.std.specs.List.{range_with_len, slice_index_or}
 use Rattle.xsk_model.specs.Config.{Config, pair_at, classes_of}
 use Rattle.xsk_model.specs.declared.config.PairInfo.{PairInfo}
@@ -23,6 +24,11 @@ use Rattle.xsk_stats.specs.declared.totals.Statistics.{Statistics}
 -- a word, and the number behind it in decimal digits
 unfoldable pub numbered : List ℕ → ℕ → List ℕ
 numbered word number = word ++ decimal number
+
+-- words behind a text, each with its number
+abbrev pub put_behind : List ℕ → List (Bor (List ℕ) × ℕ) → List ℕ
+put_behind text [] = text
+put_behind text (number ∷ numbers) = put_behind (text ++ numbered number.0.now number.1) numbers
 
 -- a word, and the port and the queue of a pair behind it
 unfoldable pub at_queue : List ℕ → PairInfo → List ℕ

@@ -1,8 +1,8 @@
 //! The lines of a report, and the whole of it.
-ghost use Rattle.std.specs.Prelude.{◌≡◌, ◌++◌, ◌<◌, ◌≤◌, IfOk, OnOk, flat_map, length, string_bytes};
+ghost use Rattle.std.specs.Prelude.{◌≡◌, ◌++◌, ◌<◌, ◌≤◌, ℕ, List, IfOk, OnOk, [], flat_map, length, string_bytes};
 ghost use Rattle.std.specs.List.{range_with_len};
 ghost use Rattle.xsk_model.specs.Config.{IsRegular, pair_at};
-ghost use Rattle.xsk_stats.specs.Report.{at_queue, calls_line, driver_line, figures_at, lines_of, numbered, pair_line, report_text, setting_line, socket_line, socket_lines, stranded_line, total_line, totals_of, wire_word};
+ghost use Rattle.xsk_stats.specs.Report.{at_queue, calls_line, driver_line, figures_at, lines_of, numbered, pair_line, put_behind, report_text, setting_line, socket_line, socket_lines, stranded_line, total_line, totals_of, wire_word};
 
 use crate::totals::{Statistics, add_up};
 use std::alloc::Global;
@@ -23,16 +23,26 @@ pub fn report(alloc: Global, config: &Config, figures: &Figures) -> Result<Vec<u
     ensures { IfOk result (λ text. text.items ≡ report_text config.now figures.now) }
 {
     let mut text = String::new(alloc);
-    push_setting(&mut text, config, figures.wire)?;
-    push_calls(&mut text, figures.calls)?;
-    push_drivers(&mut text, config, &figures.drivers)?;
-    push_pairs(&mut text, config, &figures.drivers)?;
-    let classes = config.classes();
-    push_all_sockets(&mut text, config, &figures.drivers, classes)?;
-    let totals = add_up(&figures.drivers, classes);
-    push_totals(&mut text, &totals)?;
-    push_stranded(&mut text, figures.mangled, totals.stranded)?;
+    push_report(&mut text, config, figures)?;
     Ok(text.into_bytes())
+}
+
+/// Puts all lines into a text that has none.
+fn push_report(text: &mut String, config: &Config, figures: &Figures) -> Result<(), OutOfMemory>
+    requires regular { IsRegular config.now }
+    requires drivers { length figures.now.drivers ≡ length config.now.pairs }
+    requires none { string_bytes text.old ≡ [] }
+    ensures { OnOk result (string_bytes text.new ≡ report_text config.now figures.now) }
+{
+    push_setting(text, config, figures.wire)?;
+    push_calls(text, figures.calls)?;
+    push_drivers(text, config, &figures.drivers)?;
+    push_pairs(text, config, &figures.drivers)?;
+    let classes = config.classes();
+    push_all_sockets(text, config, &figures.drivers, classes)?;
+    let totals = add_up(&figures.drivers, classes);
+    push_totals(text, &totals)?;
+    push_stranded(text, figures.mangled, totals.stranded)
 }
 
 fn push_setting(text: &mut String, config: &Config, wire: Wire) -> Result<(), OutOfMemory>
@@ -98,19 +108,20 @@ fn push_driver(
         bounced,
     ] = figures.kinds;
     push_queue(text, "driver ", pair)?;
-    push_u64(text, " in ", figures.packets_in)?;
-    push_u64(text, " delivered ", delivered)?;
-    push_u64(text, " noframes ", no_frames)?;
-    push_u64(text, " rxfull ", rx_full)?;
-    push_u64(text, " toolong ", too_long)?;
-    push_u64(text, " runt ", runt)?;
-    push_u64(text, " missed ", missed)?;
-    push_u64(text, " passed ", passed)?;
-    push_u64(text, " dropped ", dropped)?;
-    push_u64(text, " bounced ", bounced)?;
-    push_u64(text, " sent ", figures.sent)?;
-    text.push_str("\n")?;
-    Ok(())
+    let numbers = [
+        (" in ", figures.packets_in),
+        (" delivered ", delivered),
+        (" noframes ", no_frames),
+        (" rxfull ", rx_full),
+        (" toolong ", too_long),
+        (" runt ", runt),
+        (" missed ", missed),
+        (" passed ", passed),
+        (" dropped ", dropped),
+        (" bounced ", bounced),
+        (" sent ", figures.sent),
+    ];
+    push_ended(text, &numbers, "\n")
 }
 
 fn push_pairs(text: &mut String, config: &Config, drivers: &FigureList) -> Result<(), OutOfMemory>
@@ -132,15 +143,15 @@ fn push_pair(
     ensures { OnOk result (string_bytes text.new ≡ string_bytes text.old ++ pair_line pair.now counters.now) }
 {
     push_queue(text, "pair ", pair)?;
-    push_u64(text, " rx_dropped ", counters.rx_dropped)?;
-    push_u64(text, " rx_invalid_descs ", counters.rx_invalid_descs)?;
-    push_u64(
-        text,
-        " rx_fill_ring_empty_descs ",
-        counters.rx_fill_ring_empty_descs,
-    )?;
-    text.push_str("\n")?;
-    Ok(())
+    let numbers = [
+        (" rx_dropped ", counters.rx_dropped),
+        (" rx_invalid_descs ", counters.rx_invalid_descs),
+        (
+            " rx_fill_ring_empty_descs ",
+            counters.rx_fill_ring_empty_descs,
+        ),
+    ];
+    push_ended(text, &numbers, "\n")
 }
 
 fn push_all_sockets(
@@ -188,32 +199,26 @@ fn push_socket(
     let place = class as usize;
     push_queue(text, "socket ", pair)?;
     push_u32(text, ".", class)?;
-    push_u64(text, " rx_ring_full ", counters.rx_ring_full[place])?;
-    push_u64(text, " tx_invalid_descs ", counters.tx_invalid_descs[place])?;
-    push_u64(
-        text,
-        " tx_ring_empty_descs ",
-        counters.tx_ring_empty_descs[place],
-    )?;
-    text.push_str("\n")?;
-    Ok(())
+    let numbers = [
+        (" rx_ring_full ", counters.rx_ring_full[place]),
+        (" tx_invalid_descs ", counters.tx_invalid_descs[place]),
+        (" tx_ring_empty_descs ", counters.tx_ring_empty_descs[place]),
+    ];
+    push_ended(text, &numbers, "\n")
 }
 
 fn push_totals(text: &mut String, total: &Statistics) -> Result<(), OutOfMemory>
     ensures { OnOk result (string_bytes text.new ≡ string_bytes text.old ++ total_line total.now) }
 {
-    push_u64(text, "total rx_dropped ", total.rx_dropped)?;
-    push_u64(text, " rx_invalid_descs ", total.rx_invalid_descs)?;
-    push_u64(text, " tx_invalid_descs ", total.tx_invalid_descs)?;
-    push_u64(text, " rx_ring_full ", total.rx_ring_full)?;
-    push_u64(
-        text,
-        " rx_fill_ring_empty_descs ",
-        total.rx_fill_ring_empty_descs,
-    )?;
-    push_u64(text, " tx_ring_empty_descs ", total.tx_ring_empty_descs)?;
-    text.push_str("\n")?;
-    Ok(())
+    let numbers = [
+        ("total rx_dropped ", total.rx_dropped),
+        (" rx_invalid_descs ", total.rx_invalid_descs),
+        (" tx_invalid_descs ", total.tx_invalid_descs),
+        (" rx_ring_full ", total.rx_ring_full),
+        (" rx_fill_ring_empty_descs ", total.rx_fill_ring_empty_descs),
+        (" tx_ring_empty_descs ", total.tx_ring_empty_descs),
+    ];
+    push_ended(text, &numbers, "\n")
 }
 
 fn push_stranded(text: &mut String, mangled: bool, stranded: u64) -> Result<(), OutOfMemory>
@@ -246,6 +251,26 @@ fn push_queue(text: &mut String, word: &str, pair: &PairInfo) -> Result<(), OutO
 {
     push_u32(text, word, pair.port)?;
     push_u32(text, ".", pair.queue)?;
+    Ok(())
+}
+
+/// Words with the numbers behind them, and what ends them.
+fn push_ended(text: &mut String, numbers: &[(&str, u64)], end: &str) -> Result<(), OutOfMemory>
+    ensures { (before piece : List ℕ) → string_bytes text.old ≡ before ++ piece
+        → OnOk result (string_bytes text.new ≡ before ++ (put_behind piece numbers.now ++ end.now)) }
+{
+    push_numbers(text, numbers)?;
+    text.push_str(end)?;
+    Ok(())
+}
+
+/// Words, each with the number behind it.
+fn push_numbers(text: &mut String, numbers: &[(&str, u64)]) -> Result<(), OutOfMemory>
+    ensures { OnOk result (string_bytes text.new ≡ put_behind (string_bytes text.old) numbers.now) }
+{
+    for number in numbers {
+        push_u64(text, number.0, number.1)?;
+    }
     Ok(())
 }
 

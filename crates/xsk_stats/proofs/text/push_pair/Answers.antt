@@ -1,8 +1,7 @@
-use Rattle.xsk_stats.proofs.Lines.{after}
+use Rattle.std.proofs.Common.{string_bytes}
+use Rattle.std.specs.Prelude.{codes}
+use Rattle.xsk_stats.specs.Report.{at_queue}
 use Rattle.xsk_stats.proofs.text.push_pair.Goals as goal
 
 pub returns : goal.returns
-returns c =
-    let one = after _ _ _ _ _ c.in_ok-push_queue.ensures c.in_ok-push_u64.ensures in
-    let three = after _ _ _ _ _ (after _ _ _ _ _ one c.in_ok-push_u64-2.ensures) c.in_ok-push_u64-3.ensures in
-    after _ _ _ _ _ three c.in_ok-push_str.ensures.bytes
+returns c = c.push_ended.ensures (string_bytes c.args.text.now) (at_queue (codes "pair ") c.args.pair.now) c.in_ok-push_queue.ensures
