@@ -21,7 +21,8 @@ mod turn;
 
 use crate::trouble::Trouble;
 use crate::words::Line;
-use callers::Callers;
+use callers::{Answers, Callers, callers_of};
+use driver::Caller;
 use std::alloc::Global;
 use table::opened;
 use xsk_table::{Passes, Shared};
@@ -58,27 +59,28 @@ fn play_on(
     requires passes { passes ≡ new_passes shared.now }
     requires steady { IsSteady shared.now.setup.config }
 {
-    match Callers::new(alloc, shared, passes) {
-        Some(callers) => {
-            let mut callers = callers;
-            tell_all(&mut callers, lines, text)
-        }
-        None => Err(Trouble::NoMemory),
-    }
+    tell_all(callers_of(alloc, shared, passes), lines, text)
 }
 
-fn tell_all(
-    callers: &mut Callers<'_>,
+fn tell_all<C: Caller, A: Answers>(
+    callers: Option<Callers<C, A>>,
     lines: &[Line<'_>],
     text: &mut String,
 ) -> Result<(), Trouble> {
+    let Some(mut callers) = callers else {
+        return Err(Trouble::NoMemory);
+    };
     for line in lines {
-        tell_line(callers, line, text)?;
+        tell_line(&mut callers, line, text)?;
     }
     Ok(())
 }
 
-fn tell_line(callers: &mut Callers<'_>, line: &Line<'_>, text: &mut String) -> Result<(), Trouble> {
+fn tell_line<C: Caller, A: Answers>(
+    callers: &mut Callers<C, A>,
+    line: &Line<'_>,
+    text: &mut String,
+) -> Result<(), Trouble> {
     let Some((word, words)) = line.split() else {
         return Err(Trouble::BadLine);
     };

@@ -133,6 +133,11 @@ impl<M: Worker> Hand<M> {
         }
     }
 
+    /// The call that it makes now, or that it has ended.
+    pub(crate) fn act(&self) -> &Act {
+        &self.act
+    }
+
     /// Answers a question. False where the line is none.
     pub(crate) fn tell(&self, line: &str, text: &mut String) -> Result<bool, Trouble> {
         self.worker.tell(line, text)

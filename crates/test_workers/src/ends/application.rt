@@ -3,7 +3,9 @@ ghost use Rattle.std.specs.Prelude.{◌≡◌};
 ghost use Rattle.xsk_table.specs.Held.{Belongs};
 ghost use Rattle.xsk_turns.specs.Owned.{IsSteady};
 
+use super::callers::Answers;
 use super::turn::write_calls;
+use crate::hand::Hand;
 use std::alloc::AllocError;
 use std::fmt::Write;
 use std::marker::Model;
@@ -116,24 +118,6 @@ impl<'a> Application<'a> {
         }
     }
 
-    /// Does what a line says of the application, and tells what came of it.
-    pub(crate) fn answer(
-        &mut self,
-        word: &str,
-        place: u32,
-        text: &mut String,
-    ) -> Result<(), AllocError> {
-        match word {
-            "finish" => self.finish(text),
-            "calls" => self.calls(text),
-            "take" => text.push_str(self.take()),
-            "turn" => self.turn(place, text),
-            "back" => text.push_str(self.back()),
-            "parts" => self.parts(text),
-            _ => self.step(word, place, text),
-        }
-    }
-
     fn step(&mut self, word: &str, place: u32, text: &mut String) -> Result<(), AllocError> {
         match &mut self.ends {
             Some(ends) => make_step(self.shared, ends, word, place, text),
@@ -146,7 +130,7 @@ impl<'a> Application<'a> {
         match self.ends.take() {
             Some(ends) => {
                 let (app, _pass) = ends.finish();
-                write_calls(app, text)
+                write_calls(&mut Hand::new("a", 0, app), text)
             }
             None => text.push_str("finished"),
         }
@@ -205,6 +189,20 @@ impl<'a> Application<'a> {
                 write!(text, "{calls}")
             }
             None => text.push_str("no hand"),
+        }
+    }
+}
+
+impl Answers for Application<'_> {
+    fn answer(&mut self, word: &str, place: u32, text: &mut String) -> Result<(), AllocError> {
+        match word {
+            "finish" => self.finish(text),
+            "calls" => self.calls(text),
+            "take" => text.push_str(self.take()),
+            "turn" => self.turn(place, text),
+            "back" => text.push_str(self.back()),
+            "parts" => self.parts(text),
+            _ => self.step(word, place, text),
         }
     }
 }

@@ -1,42 +1,33 @@
 //! The drivers of a table, and its application.
-ghost use Rattle.std.specs.Prelude.{◌≡◌, ◌+◌, IfSome};
-ghost use Rattle.xsk_rings.specs.Rounds.{Rests};
-ghost use Rattle.xsk_table.specs.Held.{Belongs};
+ghost use Rattle.std.specs.Prelude.{◌≡◌, ◌+◌};
 ghost use Rattle.xsk_table.specs.Opening.{new_passes};
 ghost use Rattle.xsk_turns.specs.Owned.{IsSteady};
 ghost use Rattle.test_workers.specs.Taking.{AreLeft};
 
 use super::application::Application;
-use super::driver::{free, receive, send, swap};
+use super::driver::{Caller, Driver, free, receive, send, swap};
 use super::table::take;
 use std::alloc::{AllocError, Global};
 use std::fmt::Write;
-use std::marker::Model;
 use xsk_model::Mark;
 use xsk_rings::CheckedPass;
 use xsk_shared_ends::Ends;
 use xsk_table::{Passes, Shared};
 
-/// The drivers of both pairs, and the application.
-#[derive(Drop)]
-pub(crate) struct Callers<'a> {
-    shared: &'a Shared,
-    first: CheckedPass,
-    second: CheckedPass,
-    application: Application<'a>,
-    /// The length of the next packet.
-    len: u32,
+/// One who does what a line says.
+pub(crate) trait Answers: Drop {
+    /// Does what the word says, and tells what came of it.
+    fn answer(&mut self, word: &str, place: u32, text: &mut String) -> Result<(), AllocError>;
 }
 
-impl<'a> Model for Callers<'a> {
-    ghost use Rattle.std.specs.Prelude.{ℕ};
-    ghost use Rattle.xsk_rings.specs.Rounds.{Rests};
-
-    ghost Value = { ℕ };
-
-    ghost view = { λ c. c.len };
-
-    ghost invariant = { λ c. Rests c.shared.now c.first × Rests c.shared.now c.second };
+/// The drivers of both pairs, and the application.
+#[derive(Drop)]
+pub(crate) struct Callers<C: Caller, A: Answers> {
+    first: C,
+    second: C,
+    application: A,
+    /// The length of the next packet.
+    len: u32,
 }
 
 /// A number from 0 to 31.
@@ -73,13 +64,10 @@ fn is_of_application(word: &str) -> bool {
 }
 
 /// Receives so many packets, each a byte longer than the one before, and tells how many could be.
-fn receive_all(shared: &Shared, pass: &mut CheckedPass, pair: u32, count: u32, len: &mut u32) -> u32
-    requires { Rests shared.now pass.old }
-    ensures { Rests shared.now pass.new }
-{
+fn receive_all<C: Caller>(driver: &mut C, pair: u32, count: u32, len: &mut u32) -> u32 {
     let mut got = 0u32;
-    'packets: for _ in 0..count {
-        if receive(shared, pass, pair, *len).is_none() {
+    for _ in 0..count {
+        if receive(driver, pair, *len).is_none() {
             break;
         }
         *len = len.saturating_add(1);
@@ -89,51 +77,43 @@ fn receive_all(shared: &Shared, pass: &mut CheckedPass, pair: u32, count: u32, l
 }
 
 /// What the driver of a pair does.
-fn drive(
-    shared: &Shared,
-    pass: &mut CheckedPass,
+fn drive<C: Caller>(
+    driver: &mut C,
     pair: u32,
     word: &str,
     count: u32,
     len: &mut u32,
     text: &mut String,
-) -> Result<(), AllocError>
-    requires { Rests shared.now pass.old }
-    ensures { Rests shared.now pass.new }
-{
+) -> Result<(), AllocError> {
     match word {
         "rx" => {
-            let got = receive_all(shared, pass, pair, count, len);
+            let got = receive_all(driver, pair, count, len);
             write!(text, "{got}")
         }
         "free" => {
-            let freed = free(shared, pass, pair, count).is_some();
+            let freed = free(driver, pair, count).is_some();
             write!(text, "{freed}")
         }
-        "tx" => send(shared, pass, pair, text),
-        _ => tell_mark(shared, pass, pair, word, text),
+        "tx" => send(driver, pair, text),
+        _ => tell_mark(driver, pair, word, text),
     }
 }
 
 /// Sets a mark of the driver of a pair, and tells what it was.
-fn tell_mark(
-    shared: &Shared,
-    pass: &mut CheckedPass,
+fn tell_mark<C: Caller>(
+    driver: &mut C,
     pair: u32,
     word: &str,
     text: &mut String,
-) -> Result<(), AllocError>
-    requires { Rests shared.now pass.old }
-    ensures { Rests shared.now pass.new }
-{
+) -> Result<(), AllocError> {
     let was = match word {
-        "done" => swap(shared, pass, Mark::RxDone(pair), 1),
-        "gone" => swap(shared, pass, Mark::Gone(pair), 1),
+        "done" => swap(driver, Mark::RxDone(pair), 1),
+        "gone" => swap(driver, Mark::Gone(pair), 1),
         "need" => {
-            swap(shared, pass, Mark::NeedFill(pair), 1);
-            swap(shared, pass, Mark::NeedTx(pair), 1)
+            swap(driver, Mark::NeedFill(pair), 1);
+            swap(driver, Mark::NeedTx(pair), 1)
         }
-        "kick" => swap(shared, pass, Mark::Kick(pair), 0),
+        "kick" => swap(driver, Mark::Kick(pair), 0),
         _ => return text.push_str("no such call"),
     };
     match was {
@@ -142,24 +122,31 @@ fn tell_mark(
     }
 }
 
-/// The pass of the next caller, a driver, if it is there and there is memory.
-fn take_driver(alloc: Global, shared: &Shared, passes: &mut Passes, who: u32) -> Option<CheckedPass>
+/// The driver that is the next caller, if its pass is there and there is memory.
+fn take_driver<'a>(
+    alloc: Global,
+    shared: &'a Shared,
+    passes: &mut Passes,
+    who: u32,
+) -> Option<Driver<'a>>
     requires { AreLeft shared.now who passes.old }
-    ensures rests { IfSome result (λ pass. Rests shared.now pass) }
-    ensures left { AreLeft shared.now (who + 1) passes.new }
+    ensures { AreLeft shared.now (who + 1) passes.new }
 {
     let pass = take(shared, passes, who)?;
     match CheckedPass::new(alloc, shared, pass) {
-        Ok(pass) => Some(pass),
+        Ok(pass) => Some(Driver::new(shared, pass)),
         Err(_) => None,
     }
 }
 
-/// The ends of the application, which is the caller behind the drivers.
-fn take_ends<'a>(alloc: Global, shared: &'a Shared, passes: &mut Passes) -> Option<Ends<'a>>
+/// The application, which is the caller behind the drivers.
+fn take_application<'a>(
+    alloc: Global,
+    shared: &'a Shared,
+    passes: &mut Passes,
+) -> Option<Application<'a>>
     requires steady { IsSteady shared.now.setup.config }
     requires left { AreLeft shared.now 2 passes.old }
-    ensures { IfSome result (λ ends. Belongs shared.now ends.pass) }
 {
     let config = shared.config();
     if config.pairs().len() > 2 {
@@ -167,26 +154,37 @@ fn take_ends<'a>(alloc: Global, shared: &'a Shared, passes: &mut Passes) -> Opti
     }
     let pass = take(shared, passes, 2)?;
     match Ends::new(alloc, config, pass) {
-        Ok(ends) => Some(ends),
+        Ok(ends) => Some(Application::new(shared, ends)),
         Err(_) => None,
     }
 }
 
-impl<'a> Callers<'a> {
-    /// The callers of a table, with which no call was made.
-    pub(crate) fn new(alloc: Global, shared: &'a Shared, passes: Passes) -> Option<Callers<'a>>
-        requires passes { passes ≡ new_passes shared.now }
-        requires steady { IsSteady shared.now.setup.config }
-    {
-        let mut passes = passes;
-        let first = take_driver(alloc, shared, &mut passes, 0)?;
-        let second = take_driver(alloc, shared, &mut passes, 1)?;
-        let ends = take_ends(alloc, shared, &mut passes)?;
+/// The callers of a table, with which no call was made.
+pub(crate) fn callers_of<'a>(
+    alloc: Global,
+    shared: &'a Shared,
+    passes: Passes,
+) -> Option<Callers<Driver<'a>, Application<'a>>>
+    requires passes { passes ≡ new_passes shared.now }
+    requires steady { IsSteady shared.now.setup.config }
+{
+    let mut passes = passes;
+    let first = take_driver(alloc, shared, &mut passes, 0);
+    let second = take_driver(alloc, shared, &mut passes, 1);
+    let application = take_application(alloc, shared, &mut passes);
+    Callers::of(first, second, application)
+}
+
+impl<C: Caller, A: Answers> Callers<C, A> {
+    /// The callers, where all of them are there.
+    fn of(first: Option<C>, second: Option<C>, application: Option<A>) -> Option<Callers<C, A>> {
+        let first = first?;
+        let second = second?;
+        let application = application?;
         Some(Callers {
-            shared,
             first,
             second,
-            application: Application::new(shared, ends),
+            application,
             len: 60,
         })
     }
@@ -216,9 +214,9 @@ impl<'a> Callers<'a> {
     ) -> Result<(), AllocError> {
         let len = &mut self.len;
         if pair == 0 {
-            drive(self.shared, &mut self.first, 0, word, count, len, text)
+            drive(&mut self.first, 0, word, count, len, text)
         } else {
-            drive(self.shared, &mut self.second, 1, word, count, len, text)
+            drive(&mut self.second, 1, word, count, len, text)
         }
     }
 }

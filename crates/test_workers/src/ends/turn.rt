@@ -1,45 +1,31 @@
 //! The next turn of a resumed application, where every ring is full, or empty.
-ghost use Rattle.std.specs.Prelude.{◌≡◌, IfSome};
-ghost use Rattle.xsk_model.specs.Expected.{CanCome, IsReplyTo, expected_of, nothing};
-
+use crate::hand::{Hand, Worker};
 use crate::texts::ring_parts;
 use std::alloc::AllocError;
 use std::fmt::Write;
-use xsk_app::{Act, App};
-use xsk_model::{Call, Mark, Reply, Ring};
+use xsk_model::{Act, Call, Mark, Reply, Ring};
 
 /// Writes the calls of the turn, up to its end.
-pub(crate) fn write_calls(app: App<'_>, text: &mut String) -> Result<(), AllocError>
-    requires { app.expected ≡ nothing }
-{
+pub(crate) fn write_calls<M: Worker>(
+    hand: &mut Hand<M>,
+    text: &mut String,
+) -> Result<(), AllocError> {
     let start = text.len();
-    let mut app = app;
-    let mut act = go_on(&mut app, None);
-    'calls: for _ in 0..16 {
-        let Act::Call(call) = &act else {
+    for _ in 0..16 {
+        let Act::Call(call) = hand.act() else {
             break;
         };
         tell(call, start, text)?;
         let Some(reply) = reply_to(call) else {
             break;
         };
-        act = go_on(&mut app, Some(reply));
+        hand.goes(reply);
     }
     Ok(())
 }
 
-/// Goes on with the reply to the last call, if there was one.
-fn go_on(app: &mut App<'_>, reply: Option<Reply>) -> Act
-    requires { CanCome app.old.expected reply }
-    ensures { app.new.expected ≡ expected_of result }
-{
-    app.next(reply)
-}
-
 /// The reply that a call gets: None at the turn's end.
-fn reply_to(call: &Call) -> Option<Reply>
-    ensures { IfSome result (λ reply. IsReplyTo call.now reply) }
-{
+fn reply_to(call: &Call) -> Option<Reply> {
     match call {
         Call::Reserve(..) => Some(Reply::Full(0)),
         Call::Peek(..) => Some(Reply::Empty),

@@ -1,5 +1,0 @@
-use Rattle.xsk_rings.specs.Rounds.{Rests}
-use Rattle.test_workers.proofs.ends.driver.send.Given as goal
-
-abbrev pub invariant-packets : goal.invariant-packets
-invariant-packets l = Rests l.shared l.pass
