@@ -140,10 +140,9 @@ pub fn forward<R: Threads + Wait + Sync, F: Fn(&[u8], u32) -> Verdict, G: Gate +
     let own = config.copy(alloc)?;
     let inputs = Inputs::split(alloc, &own, packets)?;
     let drivers = drivers_for(alloc, &own, packets, &inputs, chain, wire)?;
-    let outcome = run_drivers::<Brand, R, G>(
+    run_drivers::<Brand, R, G>(
         rt, alloc, &own, config, frames, packets, wire, gate, manner, hands, drivers,
-    )?;
-    Ok(outcome)
+    )
 }
 
 /// Runs drivers that were made for these packets, and the applications, under the verdicts that the drivers keep.
