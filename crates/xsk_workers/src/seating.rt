@@ -2,17 +2,19 @@
 ghost use Rattle.std.specs.Prelude.{◌≡◌, ℕ, ◌≤◌, ◌==◌, [], map, length, false, true, IfOk, vec_capacity};
 ghost use Rattle.std.specs.List.{range_with_len};
 ghost use Rattle.xsk_model.specs.Config.{IsRegular, callers_of};
+ghost use Rattle.xsk_model.specs.Expected.{nothing};
 ghost use Rattle.xsk_turns.specs.Owned.{IsSteady};
 ghost use Rattle.xsk_machine.specs.Workers.{AreNew, setting_by};
 ghost use Rattle.xsk_table.specs.View.{idle};
 ghost use Rattle.xsk_table.specs.Opening.{new_passes};
-ghost use Rattle.xsk_workers.specs.Shown.{seat_with, seat_at};
+ghost use Rattle.xsk_workers.specs.Crew.{Seat};
+ghost use Rattle.xsk_workers.specs.Shown.{seat_of, seat_with, seat_at};
 ghost use Rattle.xsk_workers.specs.Hands.{SuitHands, team_seat};
-ghost use Rattle.xsk_workers.specs.Members.{member_seat};
-ghost use Rattle.xsk_workers.specs.Parking.{token_of, token_in};
+ghost use Rattle.xsk_workers.specs.Members.{either_seat, member_seat};
+ghost use Rattle.xsk_workers.specs.Parking.{IsParkerOf, token_of, token_in};
 ghost use Rattle.xsk_workers.specs.Gathering.{AreTaken};
 
-use crate::context::{Source, Verdicts};
+use crate::context::{Context, Source, Verdicts};
 use crate::member::Member;
 use crate::plan::{HandsPlan, Rest};
 use crate::team::Team;
@@ -21,7 +23,7 @@ use crossbeam_utils::sync::Parker;
 use std::alloc::Global;
 use xsk_app::side_pair;
 use xsk_driver::Driver;
-use xsk_machine::{AnyWorker, worker_of};
+use xsk_machine::{AnyWorker, Machine, worker_of};
 use xsk_shared_ends::Ends;
 use xsk_table::{Pass, Passes, Shared};
 use xsk_umem::OutOfMemory;
@@ -100,8 +102,8 @@ fn seat_drivers<'a, V: Verdicts>(
             unreachable!()
         };
         let machine = AnyWorker::Driver(driver);
-        let worker = Worker::new(place, machine, pass, parkers.next());
-        members.push_reserved(Member::One(worker));
+        let member = seat_alone(place, machine, pass, parkers.next());
+        members.push_reserved(member);
     }
 }
 
@@ -141,7 +143,23 @@ fn seat_one<'a, V: Verdicts>(
         ≡ seat_with (setting_by place.entry.config.now place.entry.wire place.entry.manner place.entry.packets.now V.verdicts) pass true) }
 {
     let machine = worker_of(alloc, place.config, None, pass.caller(), place.manner)?;
-    Ok(Member::One(Worker::new(place, machine, pass, None)))
+    Ok(seat_alone(place, machine, pass, None))
+}
+
+/// A machine by itself, with its pass, and its parker where it sleeps.
+fn seat_alone<M: Machine + Drop, P: Context, B>(
+    place: P,
+    machine: M,
+    pass: Pass,
+    parker: Option<Parker>,
+) -> Member<Worker<M, P>, B>
+    requires expected { M.expected machine ≡ nothing }
+    requires pass { (pass.view.flight ≡ idle) × (pass.view.seen ≡ []) × (pass.view.setup.config ≡ (P.setting place).config) }
+    requires machine { M.is_new (P.setting place) pass.who machine }
+    requires parker { IsParkerOf (P.tokens place) pass.who parker }
+    ensures { (several : B → Seat) → either_seat seat_of several result ≡ seat_with (P.setting place) pass true }
+{
+    Member::One(Worker::new(place, machine, pass, parker))
 }
 
 /// The team of an application, with its pass.

@@ -3,7 +3,7 @@ use Rattle.xsk_model.specs.Config.{Config, callers_of}
 use Rattle.xsk_turns.specs.Workers.{Setting}
 use Rattle.xsk_table.specs.Held.{Holder}
 use Rattle.xsk_machine.specs.Workers.{IsFreshDriver, IsNew, setting_by}
-use Rattle.xsk_workers.specs.Shown.{seat_with}
+use Rattle.xsk_workers.specs.Hands.{team_seat}
 use Rattle.xsk_workers.proofs.Sleeping.{no_parker}
 use Rattle.xsk_workers.proofs.seating.seat_one.Goals as goal
 
@@ -13,20 +13,18 @@ worker_of-requires-clause-caller g c = subst (λ (k : Config). c.caller.result <
 pub worker_of-requires-clause-app : goal.worker_of-requires-clause-app
 worker_of-requires-clause-app g c = subst (λ (k : ℕ). length c.args.place.config.now.pairs ≤ k) (sym c.caller.ensures.caller) c.requires.app
 
-pub new-requires-clause-expected : goal.new-requires-clause-expected
-new-requires-clause-expected g c =
+pub seat_alone-requires-clause-expected : goal.seat_alone-requires-clause-expected
+seat_alone-requires-clause-expected g c =
     let s : Setting = setting_by c.args.place.config.now c.args.place.wire c.args.place.manner c.args.place.packets.now g.V.Verdicts.verdicts in
     (c.in_ok-machine.ensures s refl refl tt).expected
 
-pub new-requires-clause-machine : goal.new-requires-clause-machine
-new-requires-clause-machine g c =
+pub seat_alone-requires-clause-machine : goal.seat_alone-requires-clause-machine
+seat_alone-requires-clause-machine g c =
     let s : Setting = setting_by c.args.place.config.now c.args.place.wire c.args.place.manner c.args.place.packets.now g.V.Verdicts.verdicts in
     subst (λ (k : ℕ). IsNew s k c.in_ok-machine.machine) c.caller.ensures.caller (c.in_ok-machine.ensures s refl refl tt).is
 
-pub new-requires-clause-parker : goal.new-requires-clause-parker
-new-requires-clause-parker g c = no_parker c.args.place.wakers.now c.args.pass.who (omega (arith, c.requires.few, c.requires.app))
+pub seat_alone-requires-clause-parker : goal.seat_alone-requires-clause-parker
+seat_alone-requires-clause-parker g c = no_parker c.args.place.wakers.now c.args.pass.who (omega (arith, c.requires.few, c.requires.app))
 
 pub returns : goal.returns
-returns g c =
-    let s : Setting = setting_by c.args.place.config.now c.args.place.wire c.args.place.manner c.args.place.packets.now g.V.Verdicts.verdicts in
-    ap (λ (x : Setting). seat_with x c.new.result.pass true) c.new.ensures.setting ∙ ap (λ (p : Holder). seat_with s p true) c.new.ensures.pass
+returns g c = c.seat_alone.ensures team_seat
