@@ -173,10 +173,14 @@ fn visit_share<T: Works, R: Wait>(
 
 /// Gives the tokens of the drivers of an application's sides, which a step that moved something may have kicked.
 pub(crate) fn wake_sides(wakers: &[Unparker], pairs: [u32; 2]) {
-    for pair in pairs {
-        if let Some(waker) = wakers.get(pair as usize) {
-            waker.unpark();
-        }
+    wake_side(wakers, pairs[0]);
+    wake_side(wakers, pairs[1]);
+}
+
+/// Gives the token of the driver of a pair.
+fn wake_side(wakers: &[Unparker], pair: u32) {
+    if let Some(waker) = wakers.get(pair as usize) {
+        waker.unpark();
     }
 }
 
