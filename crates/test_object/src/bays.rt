@@ -98,10 +98,7 @@ impl Bays {
             self.fails.as_slice(),
             self.most,
         )?;
-        report_all(self.alloc, &mut bay, line, told)?;
-        tell_held(bay.output(Stream::Report), told);
-        tell_offers(bay.offers(), told);
-        Ok(())
+        report_all(self.alloc, &mut bay, line, told)
     }
 }
 
@@ -134,7 +131,9 @@ fn fail_in(line: &mut Line<'_>) -> Result<Fail, Fault> {
 /// One input, with the bytes of a word.
 fn inputs_in(alloc: Global, word: &str) -> Result<Vec<Vec<u8>>, Fault> {
     let text = runs::parse(alloc, word)?;
-    Ok(vec![in alloc; text]?)
+    let mut inputs = Vec::new(alloc);
+    inputs.push(text)?;
+    Ok(inputs)
 }
 
 fn new_bay(
@@ -146,14 +145,16 @@ fn new_bay(
 ) -> Result<MemoryBay, Fault>
     ensures { IfOk result (λ bay. (stream : Stream) → is_open_of bay.memory stream ≡ false) }
 {
+    if let Some(0) = most {
+        return Err(Fault::NotLegal);
+    }
     let fails = fails.to_vec(alloc)?;
     let Ok(bay) = MemoryBay::new(alloc, inputs, room, fails) else {
         return Err(Fault::OutOfMemory);
     };
     let mut bay = bay;
     match most {
-        None => {}
-        Some(0) => return Err(Fault::NotLegal),
+        None | Some(0) => {}
         Some(most) => bay.take_at_most(most),
     }
     Ok(bay)
@@ -188,7 +189,7 @@ fn copy<B: Bay>(alloc: Global, bay: &mut B, limit: usize) -> Result<(), ReadErro
     Ok(())
 }
 
-/// Writes the texts of a line to the report.
+/// Writes the texts of a line to the report, and tells what came of it.
 fn report_all(
     alloc: Global,
     bay: &mut MemoryBay,
@@ -201,6 +202,8 @@ fn report_all(
         };
         report_text(bay, runs::parse(alloc, word)?.as_slice(), told);
     }
+    tell_held(bay.output(Stream::Report), told);
+    tell_offers(bay.offers(), told);
     Ok(())
 }
 

@@ -84,13 +84,9 @@ impl Captures {
         mem::replace(&mut self.list, Short::empty(self.alloc))
     }
 
-    fn take_first(&mut self) -> Short {
-        mem::replace(&mut self.before, Short::empty(self.alloc))
-    }
-
     fn copy(&mut self, told: &mut Told) -> Result<(), Fault> {
-        let first = self.take_first();
-        self.file = copies(self.alloc, &first, &self.list)?;
+        self.file = copies(self.alloc, &self.before, &self.list)?;
+        self.before = Short::empty(self.alloc);
         told.count(self.file.len());
         told.say(" bytes");
         Ok(())

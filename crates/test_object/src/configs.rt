@@ -3,6 +3,7 @@
 //! `numbers`, `sockets`, `pairs`, `cells PORT`, `cell PORT INDEX`, `base KIND NUMBER`, `mark KIND NUMBER`, `count`.
 use crate::line::{Fault, Line};
 use crate::told::Told;
+use crate::words::{Place, place_of};
 use xsk_model::placement::{has_mark, has_ring};
 use xsk_model::{Config, Mark, Ring};
 use xsk_words::{entry_words, mark_word, marks_base, ring_base, word_count};
@@ -138,33 +139,22 @@ fn tell_cell(config: &Config, line: &mut Line<'_>, told: &mut Told) -> Result<()
 
 fn ring_in(line: &mut Line<'_>) -> Result<Ring, Fault> {
     let word = line.word()?;
-    let number = line.number()?;
-    match word {
-        "fill" => Ok(Ring::Fill(number)),
-        "comp" => Ok(Ring::Comp(number)),
-        "rx" => Ok(Ring::Rx(number)),
-        "tx" => Ok(Ring::Tx(number)),
-        _ => Err(Fault::BadLine),
+    match place_of(word, line.number()?)? {
+        Place::Ring(ring) => Ok(ring),
+        Place::Mark(_) => Err(Fault::BadLine),
     }
 }
 
 fn mark_in(line: &mut Line<'_>) -> Result<Mark, Fault> {
     let word = line.word()?;
     let number = line.number()?;
-    match word {
-        "needfill" => Ok(Mark::NeedFill(number)),
-        "needtx" => Ok(Mark::NeedTx(number)),
-        "kick" => Ok(Mark::Kick(number)),
-        "rxdone" => Ok(Mark::RxDone(number)),
-        "gone" => Ok(Mark::Gone(number)),
-        "txdone" => Ok(Mark::TxDone(number)),
-        "cell" => cell_in(number, line),
-        _ => Err(Fault::BadLine),
+    if word == "cell" {
+        return Ok(Mark::Cell(number, line.number()?));
     }
-}
-
-fn cell_in(port: u32, line: &mut Line<'_>) -> Result<Mark, Fault> {
-    Ok(Mark::Cell(port, line.number()?))
+    match place_of(word, number)? {
+        Place::Ring(_) => Err(Fault::BadLine),
+        Place::Mark(mark) => Ok(mark),
+    }
 }
 
 /// Where a ring's words begin, and how many words its entries have.

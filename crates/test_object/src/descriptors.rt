@@ -54,19 +54,8 @@ impl Descriptors {
         }
     }
 
-    fn push(&mut self, line: &mut Line<'_>, told: &mut Told) -> Result<(), Fault> {
-        let desc = line.desc()?;
-        let Some((geometry, _)) = &self.umem else {
-            return Err(Fault::BadLine);
-        };
-        let Some(gather) = &mut self.gather else {
-            return Err(Fault::BadLine);
-        };
-        tell_gathered(gather.push(geometry, Item { frame: None, desc }), told);
-        Ok(())
-    }
-
-    fn carry(&mut self, line: &mut Line<'_>, told: &mut Told) -> Result<(), Fault> {
+    /// Pushes a descriptor, with the next frame of the UMEM if it carries one.
+    fn push(&mut self, carries: bool, line: &mut Line<'_>, told: &mut Told) -> Result<(), Fault> {
         let desc = line.desc()?;
         let Some((geometry, frames)) = &mut self.umem else {
             return Err(Fault::BadLine);
@@ -74,7 +63,7 @@ impl Descriptors {
         let Some(gather) = &mut self.gather else {
             return Err(Fault::BadLine);
         };
-        let frame = frames.pop_front();
+        let frame = if carries { frames.pop_front() } else { None };
         tell_gathered(gather.push(geometry, Item { frame, desc }), told);
         Ok(())
     }
@@ -103,8 +92,8 @@ impl Case for Descriptors {
             "valid" => self.judge(line, told),
             "pieces" => tell_pieces(line, told),
             "gather" => self.begin(line, told),
-            "push" => self.push(line, told),
-            "carry" => self.carry(line, told),
+            "push" => self.push(false, line, told),
+            "carry" => self.push(true, line, told),
             "open" => self.tell_open(told),
             "rest" => self.tell_rest(told),
             _ => Err(Fault::BadLine),

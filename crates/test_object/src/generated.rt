@@ -57,8 +57,12 @@ fn tell_lengths(list: &PacketList, told: &mut Told) {
     let mut most = 0;
     for index in 0..list.len() {
         let len = list.get(index).len();
-        least = least.min(len);
-        most = most.max(len);
+        if len < least {
+            least = len;
+        }
+        if len > most {
+            most = len;
+        }
     }
     told.number(list.len());
     told.say(" packets of ");

@@ -34,15 +34,10 @@ impl Interfaces {
     }
 
     fn write(&self, line: &mut Line<'_>, told: &mut Told) -> Result<(), Fault> {
-        let lists = lists_in(self.alloc, line)?;
-        if !are_writable(lists.as_slice()) {
-            return Err(Fault::NotLegal);
-        }
-        let text = write(self.alloc, lists.as_slice())?;
-        tell_bytes(text.as_slice(), told);
-        told.say("; ");
-        tell_reading(self.alloc, text.as_slice(), lists.len() as u32, told);
-        Ok(())
+        let mut lists = Vec::new(self.alloc);
+        lists.push(PacketList::new(self.alloc))?;
+        take_lists(self.alloc, &mut lists, line)?;
+        tell_written(self.alloc, lists.as_slice(), told)
     }
 }
 
@@ -56,16 +51,19 @@ impl Case for Interfaces {
     }
 }
 
-/// The lists of all words that are left.
-fn lists_in(alloc: Global, line: &mut Line<'_>) -> Result<Vec<PacketList>, Fault> {
-    let mut lists = vec![in alloc; PacketList::new(alloc)]?;
+/// Takes the lists of all words that are left.
+fn take_lists(
+    alloc: Global,
+    lists: &mut Vec<PacketList>,
+    line: &mut Line<'_>,
+) -> Result<(), Fault> {
     for _ in 0..u64::MAX {
         let Some(word) = line.next() else {
             break;
         };
-        add(alloc, &mut lists, word)?;
+        add(alloc, lists, word)?;
     }
-    Ok(lists)
+    Ok(())
 }
 
 /// Begins a list where a word says so, or puts the packet of the word into the last one.
@@ -74,10 +72,28 @@ fn add(alloc: Global, lists: &mut Vec<PacketList>, word: &str) -> Result<(), Fau
         lists.push(PacketList::new(alloc))?;
         return Ok(());
     }
-    let packet = runs::parse(alloc, word)?;
-    if let Some(list) = lists.last_mut() {
-        list.push(packet.as_slice())?;
+    match lists.last_mut() {
+        Some(list) => push(alloc, list, word),
+        None => Ok(()),
     }
+}
+
+/// Puts the packet of a word into a list.
+pub fn push(alloc: Global, list: &mut PacketList, word: &str) -> Result<(), Fault> {
+    let packet = runs::parse(alloc, word)?;
+    list.push(packet.as_slice())?;
+    Ok(())
+}
+
+/// Writes lists into a file, and tells it and what it reads back as.
+fn tell_written(alloc: Global, lists: &[PacketList], told: &mut Told) -> Result<(), Fault> {
+    if !are_writable(lists) {
+        return Err(Fault::NotLegal);
+    }
+    let text = write(alloc, lists)?;
+    tell_bytes(text.as_slice(), told);
+    told.say("; ");
+    tell_reading(alloc, text.as_slice(), lists.len() as u32, told);
     Ok(())
 }
 
@@ -113,7 +129,7 @@ fn tell_bytes(bytes: &[u8], told: &mut Told) {
     }
     runs::tell(told, &bytes[..ENDS]);
     told.say("..");
-    runs::tell(told, &bytes[bytes.len() - ENDS..]);
+    runs::tell(told, runs::behind(bytes, bytes.len() - ENDS));
     told.say(" of ");
     told.count(bytes.len());
 }

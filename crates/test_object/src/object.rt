@@ -160,7 +160,8 @@ pub(crate) fn walks<E: Engine>(engine: &E, lines: &[u8], callers: &[u32]) -> boo
     same && rest.is_empty() && walk.write_next(&mut line).is_none()
 }
 
-fn is_caller(found: Option<u32>, who: u32) -> bool {
+/// Whether a number was found, and is this one.
+pub(crate) fn is_caller(found: Option<u32>, who: u32) -> bool {
     match found {
         Some(found) => found == who,
         None => false,

@@ -6,6 +6,7 @@
 ghost use Rattle.std.specs.Prelude.{◌≤◌, length};
 
 use crate::case::Case;
+use crate::interfaces::push;
 use crate::line::{Fault, Line};
 use crate::runs;
 use crate::told::Told;
@@ -56,9 +57,7 @@ impl Packets {
     }
 
     fn push(&mut self, line: &mut Line<'_>) -> Result<(), Fault> {
-        let bytes = line.bytes(self.alloc)?;
-        self.list.push(bytes.as_slice())?;
-        Ok(())
+        push(self.alloc, &mut self.list, line.word()?)
     }
 
     /// Makes a list of the same packets as spans of the same text.

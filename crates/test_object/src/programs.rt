@@ -141,7 +141,7 @@ fn bounce_type(number: u32) -> Result<Rule, Fault> {
 }
 
 fn kind_of(number: u32) -> Result<u16, Fault> {
-    if number > u32::from(u16::MAX) {
+    if number > 0xffff {
         return Err(Fault::BadLine);
     }
     Ok(number as u16)

@@ -141,8 +141,11 @@ fn four(line: &mut Line<'_>) -> Result<[u64; 4], Fault> {
 }
 
 fn take_numbers(numbers: &mut [u64], line: &mut Line<'_>) -> Result<(), Fault> {
-    for number in numbers {
-        *number = line.long()?;
+    for at in 0..numbers.len() {
+        let number = line.long()?;
+        if let Some(place) = numbers.get_mut(at) {
+            *place = number;
+        }
     }
     Ok(())
 }

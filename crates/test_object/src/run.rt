@@ -4,7 +4,7 @@ use crate::ending;
 use crate::line::{Fault, long_in, says};
 use crate::makers::{Maker, Makers};
 use crate::noted::{Board, Noted};
-use crate::object::{Engine, Judge};
+use crate::object::{Engine, Judge, is_caller};
 use crate::setup::read_setup;
 use crate::stage::Stage;
 use crate::step::{Step, read};
@@ -111,8 +111,7 @@ fn make<E: Engine, B: Board>(
 ) -> Result<(), OutOfMemory> {
     match step {
         Step::Call(who, made, anew) => return call(stage, line, who, made, things, anew),
-        Step::Note(who, late) => note(stage, line, who, late),
-        Step::Meet(who, late) => meet(stage, line, who, late),
+        Step::Note { who, late, meets } => note(stage, line, who, late, meets),
         Step::Count(who, mark, most) => return count(stage, line, who, mark, most),
         Step::Drawn(seed, calls) => return drawn(stage, line, seed, calls),
         Step::Passes => passes(stage, line),
@@ -136,20 +135,31 @@ fn call<E: Engine, B: Board>(
     stage.tell(line, who, made)
 }
 
-fn note<E: Engine, B: Board>(stage: &mut Stage<E, B>, line: &str, who: Who, late: bool) {
-    let taken = match (stage.caller(who), &mut stage.table) {
-        (Some(who), Some(table)) => table.note(who, late),
+/// Takes the early note or the late one, or meets it.
+fn note<E: Engine, B: Board>(
+    stage: &mut Stage<E, B>,
+    line: &str,
+    who: Who,
+    late: bool,
+    meets: bool,
+) {
+    let done = match (stage.caller(who), &mut stage.table) {
+        (Some(who), Some(table)) => {
+            if meets {
+                table.meet(who, late)
+            } else {
+                table.note(who, late)
+            }
+        }
         _ => false,
     };
-    stage.say(line, if taken { "taken" } else { "no caller" });
-}
-
-fn meet<E: Engine, B: Board>(stage: &mut Stage<E, B>, line: &str, who: Who, late: bool) {
-    let met = match (stage.caller(who), &mut stage.table) {
-        (Some(who), Some(table)) => table.meet(who, late),
-        _ => false,
+    let words = match (meets, done) {
+        (true, true) => "met",
+        (true, false) => "no note",
+        (false, true) => "taken",
+        (false, false) => "no caller",
     };
-    stage.say(line, if met { "met" } else { "no note" });
+    stage.say(line, words);
 }
 
 /// Sets a mark to 1, 2 and so on, each of which must tell the one before. The last line is printed.
@@ -164,7 +174,8 @@ fn count<E: Engine, B: Board>(
         stage.say(line, "no caller");
         return Ok(());
     };
-    for value in 1..=most {
+    for before in 0..most {
+        let value = before + 1;
         if !count_one(
             stage,
             line,
@@ -204,7 +215,7 @@ fn count_one<E: Engine, B: Board>(
 /// Whether words are the number before a value.
 fn is_behind(words: &str, value: u64) -> bool {
     match long_in(words) {
-        Ok(found) => value.checked_sub(1) == Some(found),
+        Ok(found) => found < value && value - found == 1,
         Err(_) => false,
     }
 }
@@ -216,7 +227,7 @@ fn passes<E: Engine, B: Board>(stage: &mut Stage<E, B>, line: &str) {
     if let Some(table) = &stage.table {
         right = table.lent_once() && table.caller(callers).is_none();
         for who in 0..callers {
-            right = right && table.caller(who) == Some(who);
+            right = right && is_caller(table.caller(who), who);
         }
     }
     stage.out.say(line);

@@ -20,10 +20,11 @@ pub fn append(bytes: &mut Vec<u8>, word: &str) -> Result<(), Fault> {
         return Ok(());
     }
     for part in word.split(".") {
-        match part.split_once("x") {
-            Some((digits, times)) => push_times(bytes, digits, times)?,
-            None => push_digits(bytes, part)?,
-        }
+        let pushed = match part.split_once("x") {
+            Some((digits, times)) => push_times(bytes, digits, times),
+            None => push_digits(bytes, part),
+        };
+        pushed?;
     }
     Ok(())
 }

@@ -155,7 +155,8 @@ fn compare(words: &str, other: &str, out: &mut Told) {
 fn tell_made(line: &str, words: &str, looks: u32, out: &mut Told) {
     out.say(line);
     out.say(if looks == 0 { "\n" } else { " (1 look)\n" });
-    if looks > 1 || !line.ends_with(words) {
+    let (_, reply) = cut(line, " -> ");
+    if looks > 1 || reply != words {
         out.say("  another reply or more looks\n");
     }
 }

@@ -8,10 +8,8 @@ use xsk_model::{Mark, Ring};
 pub(crate) enum Step {
     /// A call, and whether a Reserve or a Peek looks at the other side's count in any case.
     Call(Who, Move, bool),
-    /// Takes the early note, or the late one.
-    Note(Who, bool),
-    /// Meets it.
-    Meet(Who, bool),
+    /// Takes the early note or the late one, or meets it.
+    Note { who: Who, late: bool, meets: bool },
     /// Sets a mark to 1, 2 and so on.
     Count(Who, Mark, u64),
     /// Makes calls that a number tells.
@@ -26,8 +24,8 @@ pub(crate) fn read(text: &str, things: &mut Vec<Thing>) -> Result<Step, Fault> {
     let word = line.word()?;
     match word {
         "passes" => Ok(Step::Passes),
-        "note" => read_note(&mut line),
-        "meet" => read_meet(&mut line),
+        "note" => read_note(&mut line, false),
+        "meet" => read_note(&mut line, true),
         "drawn" => read_drawn(&mut line),
         "count" => read_count(&mut line),
         "anew" => read_call(&mut line, things, true),
@@ -35,22 +33,14 @@ pub(crate) fn read(text: &str, things: &mut Vec<Thing>) -> Result<Step, Fault> {
     }
 }
 
-fn read_note(line: &mut Line<'_>) -> Result<Step, Fault> {
+fn read_note(line: &mut Line<'_>, meets: bool) -> Result<Step, Fault> {
     let who = read_who(line.word()?)?;
-    Ok(Step::Note(who, read_late(line)?))
-}
-
-fn read_meet(line: &mut Line<'_>) -> Result<Step, Fault> {
-    let who = read_who(line.word()?)?;
-    Ok(Step::Meet(who, read_late(line)?))
-}
-
-fn read_late(line: &mut Line<'_>) -> Result<bool, Fault> {
-    match line.last()? {
-        "early" => Ok(false),
-        "late" => Ok(true),
-        _ => Err(Fault::BadLine),
-    }
+    let late = match line.last()? {
+        "early" => false,
+        "late" => true,
+        _ => return Err(Fault::BadLine),
+    };
+    Ok(Step::Note { who, late, meets })
 }
 
 fn read_drawn(line: &mut Line<'_>) -> Result<Step, Fault> {
@@ -69,8 +59,11 @@ fn read_count(line: &mut Line<'_>) -> Result<Step, Fault> {
 fn read_call(line: &mut Line<'_>, things: &mut Vec<Thing>, anew: bool) -> Result<Step, Fault> {
     let who = read_who(line.word()?)?;
     let verb = line.word()?;
-    let place = read_place(line.word()?)?;
-    let made = read_move(verb, place, line)?;
+    let made = match read_place(line.word()?)? {
+        Place::Ring(ring) => on_ring(verb, ring, line),
+        Place::Mark(mark) => on_mark(verb, mark, line),
+    };
+    let made = made?;
     if let Move::Submit(_) = made {
         push_things(things, line)?;
     }
@@ -85,13 +78,6 @@ fn push_things(things: &mut Vec<Thing>, line: &mut Line<'_>) -> Result<(), Fault
         things.push(read_thing(word)?)?;
     }
     Ok(())
-}
-
-fn read_move(verb: &str, place: Place, line: &mut Line<'_>) -> Result<Move, Fault> {
-    match place {
-        Place::Ring(ring) => on_ring(verb, ring, line),
-        Place::Mark(mark) => on_mark(verb, mark, line),
-    }
 }
 
 /// A call on a ring, with the number behind it where it needs one.

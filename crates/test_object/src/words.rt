@@ -46,13 +46,15 @@ pub(crate) enum Place {
 
 /// `d0` is the first driver, and `a0` the first application.
 pub(crate) fn read_who(word: &str) -> Result<Who, Fault> {
-    if let Some(driver) = word.strip_prefix("d") {
+    let (before, driver) = cut(word, "d");
+    if before.is_empty() {
         return Ok(Who::Driver(number_in(driver)?));
     }
-    match word.strip_prefix("a") {
-        Some(app) => Ok(Who::App(number_in(app)?)),
-        None => Err(Fault::BadLine),
+    let (before, app) = cut(word, "a");
+    if !before.is_empty() {
+        return Err(Fault::BadLine);
     }
+    Ok(Who::App(number_in(app)?))
 }
 
 /// `fill.0`, `need.tx.1` or `cell.1.0`.
@@ -66,12 +68,14 @@ pub(crate) fn read_place(word: &str) -> Result<Place, Fault> {
 }
 
 /// The ring or the mark of a kind and a number.
-fn place_of(kind: &str, index: u32) -> Result<Place, Fault> {
+pub(crate) fn place_of(kind: &str, index: u32) -> Result<Place, Fault> {
     match kind {
         "fill" => Ok(Place::Ring(Ring::Fill(index))),
         "comp" => Ok(Place::Ring(Ring::Comp(index))),
         "rx" => Ok(Place::Ring(Ring::Rx(index))),
         "tx" => Ok(Place::Ring(Ring::Tx(index))),
+        "needfill" => Ok(Place::Mark(Mark::NeedFill(index))),
+        "needtx" => Ok(Place::Mark(Mark::NeedTx(index))),
         "kick" => Ok(Place::Mark(Mark::Kick(index))),
         "rxdone" => Ok(Place::Mark(Mark::RxDone(index))),
         "gone" => Ok(Place::Mark(Mark::Gone(index))),
@@ -102,10 +106,11 @@ fn need_of(word: &str) -> Result<Place, Fault> {
 
 /// `256:60:0` is an item in the frame of its address, `3@256:60:0` one in frame 3, and `-@256:60:0` one without a frame.
 pub(crate) fn read_thing(word: &str) -> Result<Thing, Fault> {
-    match word.split_once("@") {
-        Some((body, desc)) => thing_of(body_of(body)?, desc),
-        None => thing_of(Body::Addressed, word),
+    let (body, desc) = cut(word, "@");
+    if desc.is_empty() {
+        return thing_of(Body::Addressed, body);
     }
+    thing_of(body_of(body)?, desc)
 }
 
 fn body_of(word: &str) -> Result<Body, Fault> {
