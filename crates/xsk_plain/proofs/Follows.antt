@@ -4,7 +4,7 @@ use Rattle.std.proofs.lemmas.List.{map-set}
 use Rattle.xsk_umem.specs.declared.batch.Item.{Item}
 use Rattle.xsk_model.specs.Config.{Config, size_of}
 use Rattle.xsk_model.specs.Rings.{place}
-use Rattle.xsk_model.specs.Object.{RingState, State, empty_ring, ring_at, free, reserve_reply, peek_reply, reply_at, call_ring, ring_after, rings_after, marks_after}
+use Rattle.xsk_model.specs.Object.{RingState, State, after, empty_ring, ring_at, free, reserve_reply, peek_reply, reply_at, call_ring, ring_after, rings_after, marks_after}
 use Rattle.xsk_model.specs.declared.call.Ring.{Ring}
 use Rattle.xsk_model.specs.declared.call.Call.{Call}
 use Rattle.xsk_model.specs.declared.call.Call.TheVariants.{Reserve, Submit, Peek, Release, Swap, Look}
@@ -78,3 +78,23 @@ pub reply_items : (n : ℕ) (out items : List Item) → items ≡ take n out →
 reply_items zero [] items is some = absurd (some is)
 reply_items (suc n) [] items is some = absurd (some is)
 reply_items n (item ∷ out) items is some = ap Items is
+
+-- ---- a call that is counted before it is made
+
+counted : (old new : Engine) (n who : ℕ) (call : Call) (answer : Reply) → FollowsObject (record old { calls = n }) new who call answer → FollowsObject old new who call answer
+counted old new n who call answer made = record {
+  reply = λ s shows. made.reply s (record { rings = shows.rings; marks = shows.marks });
+  state = λ s shows. made.state s (record { rings = shows.rings; marks = shows.marks });
+}
+
+-- `old` is told in other words: as what is seen of it, with what was asked and given in place of the call and its answer
+module _ (old seen new : Engine) (n : ℕ) (call asked : Call) (answer given : Reply) (is : old ≡ seen) (asks : asked ≡ call) (gives : given ≡ answer)
+    (made : (who : ℕ) → FollowsObject (record old { calls = n }) new who call answer) where
+  told : (who : ℕ) → FollowsObject seen new who asked given
+  told who = rw (← is, asks, gives) (counted old new n who call answer (made who))
+
+  pub counted_reply : (s : State) → Shows seen s → given ≡ reply_at seen.config s asked
+  counted_reply s shows = (told 0).reply s shows
+
+  pub counted_state : (s : State) (who : ℕ) → Shows seen s → Shows new (after seen.config s who asked)
+  counted_state s who shows = (told who).state s shows

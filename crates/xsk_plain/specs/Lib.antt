@@ -9,3 +9,4 @@ pub mod Rooms
 pub mod Sound
 pub mod Steps
 pub mod Stores
+pub mod Unlogged

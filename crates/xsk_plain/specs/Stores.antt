@@ -29,9 +29,13 @@ sizes_in stores = map size_in stores
 abbrev pub piece_of : Stored → Piece
 piece_of stored = record { frame = option_map (λ (f : Frame). f.number) stored.item.frame; desc = stored.item.desc; payload = stored.payload }
 
+-- an item of which the log has nothing
+abbrev pub unnoted : Item → Stored
+unnoted item = record { item = item; payload = record { start = 0; len = 0 }; place = None }
+
 -- the item of a frame at the opening
 abbrev pub home_stored : Geometry → Frame → Stored
-home_stored g frame = record { item = home_item g frame; payload = record { start = 0; len = 0 }; place = None }
+home_stored g frame = unnoted (home_item g frame)
 
 -- a store with nothing in it
 pub record IsBlank (store : RingStore) : Type 0 where

@@ -1,4 +1,4 @@
-//! The AF_XDP object on one thread, with the log of all calls on it.
+//! The AF_XDP object on one thread, with the log of all calls on it, or without.
 #![tactic(auto)]
 
 mod bases;
@@ -10,6 +10,8 @@ mod object;
 mod opening;
 mod plain;
 mod ring_store;
+mod unlogged;
 
 pub use checked::Checked;
 pub use plain::{OpenRefused, Plain, items_room, payload_room};
+pub use unlogged::Unlogged;

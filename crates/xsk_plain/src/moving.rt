@@ -48,6 +48,19 @@ pub(crate) fn put_items(store: &mut RingStore, log: &mut Log, config: &Config, i
     }
 }
 
+/// Moves the items into reserved places of the ring, of which nothing is noted.
+pub(crate) fn put_unnoted(store: &mut RingStore, items: &mut Batch)
+    requires room { length items.old ≤ store.old.room }
+    ensures ring { part_of store.new ≡ record { out = map stored_item_of store.old.out.items ++ items.old; held = store.old.held; room = store.old.room - length items.old } }
+    ensures left { items.new ≡ [] }
+    ensures size { store.new.size ≡ store.old.size }
+{
+    for _ in 0..items.len() {
+        let item = items.pop_front().unwrap();
+        store.put(Stored::unnoted(item));
+    }
+}
+
 /// The number of the item's frame, or 0.
 fn number_of(item: &Item) -> u32 {
     match &item.frame {
@@ -75,6 +88,19 @@ pub(crate) fn take_items(store: &mut RingStore, log: &mut Log, count: u32, items
         let stored = store.take().unwrap();
         note_stored(log, &stored);
         items.push(stored.item);
+    }
+}
+
+/// Takes at most so many items from the ring into an empty batch, and notes nothing of them.
+pub(crate) fn take_unnoted(store: &mut RingStore, count: u32, items: &mut Batch)
+    requires empty { items.old ≡ [] }
+    requires few { count ≤ most_items }
+    ensures items { items.new ≡ take count (map stored_item_of store.old.out.items) }
+    ensures ring { part_of store.new ≡ record { out = drop count (map stored_item_of store.old.out.items); held = store.old.held + length items.new; room = store.old.room } }
+    ensures size { store.new.size ≡ store.old.size }
+{
+    for _ in 0..count.min(store.len()) {
+        items.push(store.take().unwrap().item);
     }
 }
 

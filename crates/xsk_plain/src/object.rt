@@ -6,7 +6,7 @@ ghost use Rattle.xsk_plain.specs.Bases.{ring_bases, mark_bases};
 ghost use Rattle.xsk_plain.specs.Stores.{sizes_in};
 
 use crate::bases::{first_marks, first_rings, mark_number, ring_number};
-use crate::moving::{give_back, put_items, take_items};
+use crate::moving::{give_back, put_items, put_unnoted, take_items, take_unnoted};
 use crate::opening::{fill_pools, open_marks, open_rings};
 use crate::ring_store::RingStore;
 use std::alloc::Global;
@@ -142,6 +142,17 @@ impl Object {
         put_items(&mut self.rings[place], log, &self.config, items);
     }
 
+    /// Moves the items into reserved places of a ring, and notes nothing of them.
+    #[inline(always)]
+    pub(crate) fn submit_unnoted(&mut self, ring: Ring, items: &mut Batch)
+        requires can { CanPerform self.old.config (parts_of self.old.rings.items) (Submit ring items.old) }
+        ensures changes { ChangesRing self.old self.new ring (Submit ring items.old) }
+        ensures left { items.new ≡ [] }
+    {
+        let place = self.ring_place(ring);
+        put_unnoted(&mut self.rings[place], items);
+    }
+
     /// Takes at most so many items from a ring into an empty batch, and notes each in the log.
     #[inline(always)]
     pub(crate) fn peek(&mut self, ring: Ring, count: u32, log: &mut Log, items: &mut Batch)
@@ -158,6 +169,18 @@ impl Object {
     {
         let place = self.ring_place(ring);
         take_items(&mut self.rings[place], log, count, items);
+    }
+
+    /// Takes at most so many items from a ring into an empty batch, and notes nothing of them.
+    #[inline(always)]
+    pub(crate) fn peek_unnoted(&mut self, ring: Ring, count: u32, items: &mut Batch)
+        requires empty { items.old ≡ [] }
+        requires can { CanPerform self.old.config (parts_of self.old.rings.items) (Peek ring count) }
+        ensures changes { ChangesRing self.old self.new ring (Peek ring count) }
+        ensures items { items.new ≡ take count (part_in self.old.config (parts_of self.old.rings.items) ring).out }
+    {
+        let place = self.ring_place(ring);
+        take_unnoted(&mut self.rings[place], count, items);
     }
 
     /// Frees the places of so many held items of a ring.

@@ -18,7 +18,19 @@ pub(crate) struct Stored {
 
 impl Stored {
     ghost use Rattle.std.specs.Prelude.{◌≡◌};
-    ghost use Rattle.xsk_plain.specs.Stores.{piece_of};
+    ghost use Rattle.xsk_plain.specs.Stores.{piece_of, unnoted};
+
+    /// The item, of which the log has nothing.
+    #[inline(always)]
+    pub(crate) fn unnoted(item: Item) -> Stored
+        ensures { result ≡ unnoted item }
+    {
+        Stored {
+            item,
+            payload: Extent::default(),
+            place: None,
+        }
+    }
 
     /// What the log keeps of the item.
     pub(crate) fn piece(&self) -> Piece
@@ -45,9 +57,9 @@ pub(crate) struct RingStore {
 }
 
 impl RingStore {
-    ghost use Rattle.std.specs.Prelude.{◌≡◌, None, ◌+◌, ◌-◌, ◌<◌, ◌≤◌, ◌↔◌, [], ◌∷◌, ◌++◌, length, IsOk, IsNone, OnOk, OnErr, IfOk, IfErr, IfSome, IfNone};
+    ghost use Rattle.std.specs.Prelude.{◌≡◌, ◌+◌, ◌-◌, ◌<◌, ◌≤◌, ◌↔◌, [], ◌∷◌, ◌++◌, length, IsOk, IsNone, OnOk, OnErr, IfOk, IfErr, IfSome, IfNone};
     ghost use Rattle.xsk_plain.specs.Steps.{free_in};
-    ghost use Rattle.xsk_plain.specs.Stores.{part_of, Has};
+    ghost use Rattle.xsk_plain.specs.Stores.{part_of, unnoted, Has};
 
     pub(crate) fn new(alloc: Global, size: u32) -> Result<RingStore, OutOfMemory>
         ensures { IfOk result (λ store. Has store [] 0 0 size) }
@@ -111,13 +123,9 @@ impl RingStore {
     /// Puts an item into a free place at the opening. Where none is free the item is dropped.
     pub(crate) fn fill(&mut self, item: Item)
         requires { 0 < free_in self.old.size (part_of self.old) }
-        ensures { Has self.new (self.old.out.items ++ (record { item = item; payload = record { start = 0; len = 0 }; place = None }) ∷ []) self.old.held self.old.room self.old.size }
+        ensures { Has self.new (self.old.out.items ++ unnoted item ∷ []) self.old.held self.old.room self.old.size }
     {
-        self.out.push_back_reserved(Stored {
-            item,
-            payload: Extent::default(),
-            place: None,
-        });
+        self.out.push_back_reserved(Stored::unnoted(item));
     }
 
     /// Takes the first item; its place is held until it is released.

@@ -1,4 +1,4 @@
-use Rattle.std.proofs.Common.{◌+◌, ◌-◌, ◌*◌, ◌≡◌, length, ap, arith, ◌∙◌}
+use Rattle.std.proofs.Common.{◌-◌, ◌*◌, ◌≡◌, length, ap, arith, ◌∙◌}
 use Rattle.xsk_plain.proofs.StoreSteps.{rx_at, tx_at}
 use Rattle.xsk_plain.proofs.opening.size_at.Goals as goal
 

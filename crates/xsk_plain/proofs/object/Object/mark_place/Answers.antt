@@ -1,4 +1,4 @@
-use Rattle.std.proofs.Common.{ℕ, List, ◌≡◌, ◌+◌, ◌<◌, ap, subst, sym, slice_index_or, ◌∙◌}
+use Rattle.std.proofs.Common.{ℕ, List, ◌+◌, ◌<◌, ap, subst, sym, slice_index_or, ◌∙◌}
 use Rattle.xsk_model.proofs.MarkPlaces.{mark_place_below}
 use Rattle.xsk_model.specs.Marks.{mark_places_of}
 use Rattle.xsk_plain.proofs.object.Object.mark_place.Goals as goal

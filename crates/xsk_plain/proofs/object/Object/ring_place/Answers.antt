@@ -1,4 +1,4 @@
-use Rattle.std.proofs.Common.{ℕ, List, ◌≡◌, ◌+◌, ◌<◌, ap, subst, sym, slice_index_or, ◌∙◌}
+use Rattle.std.proofs.Common.{ℕ, List, ◌+◌, ◌<◌, ap, subst, sym, slice_index_or, ◌∙◌}
 use Rattle.xsk_model.proofs.Places.{place_below}
 use Rattle.xsk_model.specs.Rings.{places_of}
 use Rattle.xsk_plain.proofs.object.Object.ring_place.Goals as goal
