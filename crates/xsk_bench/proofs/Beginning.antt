@@ -18,6 +18,7 @@ use Rattle.xsk_driver.specs.Runs.{StandsWith}
 use Rattle.xsk_machine.specs.Workers.{setting_with}
 use Rattle.xsk_machine.specs.declared.inputs.Amount.{Amount}
 use Rattle.xsk_sim.specs.Seats.{EachFrom}
+use Rattle.xsk_sim.specs.Server.{logged_seen}
 use Rattle.xsk_sim.proofs.Seating.{each_none, each_push, each_change}
 use Rattle.xsk_sim.proofs.Beginning.{run_begins}
 use Rattle.xsk_bench.specs.Played.{act_of, IsSeated, HasPlayed}
@@ -87,15 +88,16 @@ module _ (By : ℕ → List ℕ → Verdict → Type 0) (c : Config) (wire : Wir
 
 -- They are those of a bench over an object that was opened with a copy of the configuration.
 pub bench_opened : (By : ℕ → List ℕ → Verdict → Type 0) (wire : Wire) (c copy : Config) (packets : List PacketList) (frames : List Frame) (p : Play) → copy ≡ c → IsGeometry c.geometry → IsConfig c
-    → IsLawful c → AreFrames c.geometry frames → p.checked.config ≡ copy → Shows p.checked (opening copy frames) → p.checked.log ≡ [] → vec_len p.seats ≡ length c.pairs
+    → IsLawful c → AreFrames c.geometry frames → p.checked.config ≡ copy → Shows p.checked (opening copy frames) → p.checked.log ≡ [] → p.checked.calls ≡ 0 → vec_len p.seats ≡ length c.pairs
     → (verdicts : List (List Verdict)) × AreGiven By (setting_with c wire packets verdicts) × EachFrom p.seats.items 0 (IsSeated (setting_with c wire packets verdicts) p.room [])
     → (verdicts : List (List Verdict)) × AreGiven By (setting_with c wire packets verdicts) × HasPlayed (setting_with c wire packets verdicts) frames [] p
-bench_opened By wire c copy packets frames p is geometry known lawful umem config shows log count begun =
+bench_opened By wire c copy packets frames p is geometry known lawful umem config shows log calls count begun =
     let opened : IsOpened c frames = record { geometry = geometry; config = known; lawful = lawful; umem = umem } in (
       begun.0,
       begun.1,
       record {
-        run = run_begins (setting_with c wire packets begun.0) frames p.checked opened (config ∙ is) (subst (λ (k : Config). Shows p.checked (opening k frames)) is shows) log;
+        run = run_begins (setting_with c wire packets begun.0) frames (logged_seen p.checked) opened
+            (record { config = config ∙ is; state = subst (λ (k : Config). Shows p.checked (opening k frames)) is shows; calls = calls; log = λ kept. log });
         count = count;
         seats = begun.2;
       },

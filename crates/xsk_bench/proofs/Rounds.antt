@@ -1,5 +1,5 @@
 -- Turns of drivers, one after the other, and rounds of all of them.
-use Rattle.std.proofs.Common.{◌≡◌, ◌↔◌, ℕ, zero, suc, ◌+◌, ◌<◌, ◌≤◌, Bool, true, false, IsTrue, Ok, Err, List, [], ◌∷◌, ◌++◌, length, refl, sym, subst, ap, ◌∙◌, arith, ⊎_elim, inl, inr, append-nil, append_assoc, vec_len}
+use Rattle.std.proofs.Common.{◌≡◌, ◌↔◌, ℕ, suc, ◌+◌, ◌<◌, ◌≤◌, Bool, true, false, IsTrue, Ok, Err, List, [], ◌∷◌, ◌++◌, length, refl, sym, subst, ap, ◌∙◌, arith, ⊎_elim, inl, inr, append-nil, append_assoc, vec_len}
 use Rattle.std.specs.List.{range_with_len}
 use Rattle.xsk_umem.specs.Frame.{Frame}
 use Rattle.xsk_umem.specs.declared.memory.OutOfMemory.{OutOfMemory}
@@ -7,6 +7,7 @@ use Rattle.xsk_model.specs.Entry.{Entry, own}
 use Rattle.xsk_model.proofs.Counting.{range-push}
 use Rattle.xsk_turns.specs.Workers.{Setting, IsWholeRun}
 use Rattle.xsk_sim.specs.Stalls.{settled_of, AreQuiet}
+use Rattle.xsk_sim.specs.Server.{logged_seen}
 use Rattle.xsk_sim.proofs.RunSteps.{run_same}
 use Rattle.xsk_sim.proofs.Stalling.{told_both}
 use Rattle.xsk_sim.proofs.Standing.{decided}
@@ -33,7 +34,7 @@ pub played_same : (s : Setting) (frames : List Frame) (h : List Entry) (p q : Pl
     → q ≡ record p { checked = q.checked } → q.checked ≡ record p.checked { spare_entries = q.checked.spare_entries; spare_bytes = q.checked.spare_bytes } → HasPlayed s frames h q
 played_same s frames h p q played same log =
     subst (HasPlayed s frames h) (sym same)
-    (record { run = run_same s frames h p.checked q.checked played.run log; count = played.count; seats = played.seats })
+    (record { run = run_same s frames h (logged_seen p.checked) (logged_seen q.checked) played.run (record { keeps = refl; engine = log }); count = played.count; seats = played.seats })
 
 -- ---- turns
 

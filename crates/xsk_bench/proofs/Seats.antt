@@ -1,17 +1,14 @@
 -- A driver's turn at its seat.
-use Rattle.std.proofs.Common.{◌≡◌, ◌↔◌, ℕ, ◌<◌, Bool, true, false, IsTrue, Some, ◌⊎◌, List, [], ◌∷◌, ◌++◌, length, refl, sym, subst, ap, ◌∙◌, arith, ⊎_elim, inl, inr, append-nil}
+use Rattle.std.proofs.Common.{◌≡◌, ◌↔◌, ℕ, ◌<◌, Bool, IsTrue, Some, List, [], ◌∷◌, ◌++◌, length, sym, subst, ap, ◌∙◌, arith, append-nil}
 use Rattle.std.specs.List.{slice_get}
-use Rattle.std.proofs.lemmas.Bool.{cases_eq}
 use Rattle.std.proofs.lemmas.Option.{slice_get_within, get_or_from_slice_get}
 use Rattle.xsk_umem.specs.Frame.{Frame}
 use Rattle.xsk_model.specs.Config.{classes_of}
 use Rattle.xsk_model.specs.Entry.{Told, Entry, told, own}
 use Rattle.xsk_model.specs.History.{IsHistory}
-use Rattle.xsk_model.specs.OtherWords.{changes}
 use Rattle.xsk_model.specs.declared.call.Act.{Act}
 use Rattle.xsk_model.specs.declared.call.Act.TheVariants.{Call as Calls, Ended as IsEnd}
-use Rattle.xsk_model.proofs.Folds.{own-push_same, own-push_other}
-use Rattle.xsk_model.proofs.CallTheorems.{leaves_state, changes_state}
+use Rattle.xsk_model.proofs.Folds.{own-push_same}
 use Rattle.xsk_turns.specs.Turns.{seat_of, start, turn}
 use Rattle.xsk_turns.specs.Workers.{Setting, input_of}
 use Rattle.xsk_turns.specs.Sending.{sent_by_act}
@@ -21,7 +18,7 @@ use Rattle.xsk_driver.specs.Stands.{left}
 use Rattle.xsk_driver.proofs.Runs.{tells_with}
 use Rattle.xsk_machine.specs.Acts.{IsActAfter}
 use Rattle.xsk_sim.specs.Rounds.{IsTurn}
-use Rattle.xsk_sim.specs.Stalls.{settled_of, settled_by, IsQuiet, AreQuiet}
+use Rattle.xsk_sim.specs.Stalls.{settled_of, settled_by, AreQuiet}
 use Rattle.xsk_sim.specs.Turning.{Notes}
 use Rattle.xsk_sim.proofs.Stalling.{settled_at, driver_quiet, turn_who}
 use Rattle.xsk_sim.proofs.Seating.{each_at}

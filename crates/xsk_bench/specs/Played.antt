@@ -13,6 +13,7 @@ use Rattle.xsk_driver.specs.Frames.{frames_kept}
 use Rattle.xsk_machine.specs.declared.inputs.Amount.{Amount}
 use Rattle.xsk_sim.specs.Rounds.{AreTurns}
 use Rattle.xsk_sim.specs.Seats.{EachFrom}
+use Rattle.xsk_sim.specs.Server.{logged_seen}
 use Rattle.xsk_sim.specs.Stalls.{settled_by, AreQuiet}
 use Rattle.xsk_sim.specs.Turning.{HasRun}
 use Rattle.xsk_bench.specs.Drives.{Drives}
@@ -39,7 +40,7 @@ pub record IsSeated (s : Setting) (room : Amount) (h : List Entry) (who : ℕ) (
 -- The engine's log is this legal history from the opening, as it is stored, and it shows the state that the history leaves; and
 -- the drivers of all pairs stand for their own entries of it.
 pub record HasPlayed (s : Setting) (frames : List Frame) (h : List Entry) (p : Play) : Type 0 where
-  pub run : HasRun s frames h p.checked
+  pub run : HasRun s frames h (logged_seen p.checked)
   pub count : vec_len p.seats ≡ length s.config.pairs
   pub seats : EachFrom p.seats.items 0 (IsSeated s p.room h)
 

@@ -10,7 +10,6 @@ use Rattle.xsk_model.specs.declared.ask.Answer.{Answer}
 use Rattle.xsk_model.specs.declared.call.Call.{Call}
 use Rattle.xsk_model.specs.declared.call.Reply.{Reply}
 use Rattle.xsk_legal.specs.Why.{Fails}
-use Rattle.xsk_legal.specs.declared.why.Illegal.{Illegal}
 use Rattle.xsk_plain.specs.Engine.{Engine}
 use Rattle.xsk_turns.specs.Workers.{Setting}
 use Rattle.xsk_bench.specs.Played.{HasPlayed}

@@ -240,7 +240,7 @@ fn opened(alloc: Global, config: &Config, frames: Frames) -> Result<Checked, Out
     requires frames { AreFrames config.now.geometry frames.items }
     ensures config { IfOk result (λ checked. checked.config ≡ config.now) }
     ensures state { IfOk result (λ checked. Shows checked (opening config.now frames.items)) }
-    ensures log { IfOk result (λ checked. checked.log ≡ []) }
+    ensures log { IfOk result (λ checked. (checked.log ≡ []) × (checked.calls ≡ 0)) }
 {
     let copy = config.copy(alloc)?;
     let Ok(checked) = Checked::open(alloc, copy, frames) else {

@@ -58,9 +58,10 @@ impl Play<'_> {
             return Err(Unserved::StrayItems);
         }
         let config = self.checked.config();
-        // For the proof: the geometry is lawful, and the log is a legal history.
+        // For the proof: the geometry is lawful, the log is a legal history, and a batch has at most 32 items.
         let _geometry = config.geometry();
         let _log = self.checked.log();
+        let _count = items.len();
         if app >= applications(config) {
             return Err(Unserved::Illegal(Illegal::NoCaller));
         }

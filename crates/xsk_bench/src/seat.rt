@@ -19,6 +19,7 @@ ghost use Rattle.xsk_turns.specs.declared.wire.Wire.{Wire as AWire};
 ghost use Rattle.xsk_driver.specs.Frames.{frames_kept};
 ghost use Rattle.xsk_driver.specs.Runs.{IsNew, StandsWith};
 ghost use Rattle.xsk_sim.specs.Rooms.{most_payload};
+ghost use Rattle.xsk_sim.specs.Server.{logged_seen};
 ghost use Rattle.xsk_sim.specs.Turning.{HasRun, TakesTurn, Notes};
 ghost use Rattle.xsk_bench.specs.Drives.{Drives};
 
@@ -73,9 +74,9 @@ impl<'a> Seat<'a> {
         ensures bytes { checked.old.spare_bytes ≤ checked.new.spare_bytes + most_payload }
         ensures given { IsGivenBack self.new.ask self.new.items }
         ensures room { (self.new.driver.sent.most_packets ≡ self.old.driver.sent.most_packets) × (self.new.driver.sent.most_bytes ≡ self.old.driver.sent.most_bytes) }
-        ensures turn { (s : Setting) (frames : List Frame) (h : List Entry) → HasRun s frames h checked.old → who < length s.config.pairs
+        ensures turn { (s : Setting) (frames : List Frame) (h : List Entry) → HasRun s frames h (logged_seen checked.old) → who < length s.config.pairs
             → Drives s who self.old.driver (joined_ask self.old.ask self.old.items) (own who h)
-            → (t : TakesTurn s frames who h (Drives s who self.new.driver (joined_ask self.new.ask self.new.items)) (joined_ask self.new.ask self.new.items) checked.new)
+            → (t : TakesTurn s frames who h (Drives s who self.new.driver (joined_ask self.new.ask self.new.items)) (joined_ask self.new.ask self.new.items) (logged_seen checked.new))
             × Notes (joined_ask self.old.ask self.old.items) self.old.settled (length self.old.driver.kept.disposals) self.new.settled result t.entries }
     {
         let Some(ask) = self.ask else {

@@ -4,11 +4,10 @@ use Rattle.std.specs.Prelude.{flat_map, is_some, Bool}
 use Rattle.xsk_turns.specs.Stepping.{joined_ask}
 use Rattle.xsk_umem.specs.Frame.{Frame}
 use Rattle.std.specs.List.{range_with_len}
-use Rattle.std.proofs.lemmas.List.{length-map}
 use Rattle.std.proofs.lemmas.List.FromFn.{get_or-map-range_with_len}
 use Rattle.xsk_model.specs.Config.{IsRegular, callers_of, classes_of}
 use Rattle.xsk_model.specs.Entry.{Entry, Told, own}
-use Rattle.xsk_model.specs.Stored.{stored_entry}
+use Rattle.xsk_model.specs.Stored.{stored}
 use Rattle.xsk_model.specs.History.{IsHistory}
 use Rattle.xsk_model.proofs.Theorems.{one_holder}
 use Rattle.xsk_turns.specs.Counted.{capped}
@@ -24,9 +23,11 @@ use Rattle.xsk_model.specs.declared.call.Act.{Act}
 use Rattle.xsk_model.specs.declared.call.Act.TheVariants.{Ended as IsEnd}
 use Rattle.xsk_log.proofs.Parts.{length-entries}
 use Rattle.xsk_plain.specs.Engine.{Engine}
+use Rattle.xsk_sim.specs.Server.{Seen, logged_seen}
 use Rattle.xsk_log.specs.Log.{calls_of, entries_of, item_of}
 use Rattle.xsk_log.specs.declared.log.Log.{Log}
-use Rattle.xsk_sim.specs.Shown.{Shown}
+use Rattle.xsk_machine.specs.Sent.{SentShown}
+use Rattle.xsk_sim.specs.Shown.{Shown, IsShownBy, shown_by}
 use Rattle.xsk_turns.specs.Hands.{IsWholeRunOf}
 use Rattle.xsk_turns.specs.Workers.{Setting, IsWorkerRun, IsWholeRun, input_of}
 use Rattle.xsk_sim.specs.Runs.{HasEnded, HasStalled, NeverStill}
@@ -141,7 +142,7 @@ kept_by_pair s f g (x ∷ xs) n (suc m) is all each =
     let below : n < length s.config.pairs = omega (arith, is) in
     ap (λ ys. ys ++ flat_map f xs) (each.0.driver below) ∙ ap (λ ys. g n ∷ ys) (kept_by_pair s f g xs (n + 1) m (omega (arith, is)) (omega (arith, all)) each.1)
 
-module _ (s : Setting) (frames : List Frame) (h : List Entry) (w : Workers) (engine : Engine) (seated : AreSeated s frames h w engine) where
+module _ (s : Setting) (frames : List Frame) (h : List Entry) (w : Workers) (object : Seen) (seated : AreSeated s frames h w object) where
   all_after : EachFrom w.seats.items 0 (λ who seat. IsActAfter s who (joined_ask seat.ask seat.items) (own_in h who))
   all_after = each_change w.seats.items 0 _ _ seated.seats (λ k x low high sits. sits.1)
 
@@ -192,41 +193,43 @@ module _ (s : Setting) (frames : List Frame) (h : List Entry) (w : Workers) (eng
       (each_change w.seats.items 0 _ _ (ended_seats ended) (λ k x low high both. ended_figures s h k x.machine (joined_ask x.ask x.items) within both.0 both.1.0))
 
 -- a run that has ended
-pub ended_run : (s : Setting) (frames : List Frame) (order count : ℕ) (w : Workers) (engine : Engine) (run : Shown) (classes calls : ℕ) (wire : Wire) (mangled : Bool) → IsRegular s.config → (had : HadRounds s frames order count w engine)
-    → count ≤ 18446744073709551616 → NeverStill s frames order count → HaveEnded w → run.log ≡ engine.log → run.sent ≡ kept_lists w
-    → classes ≡ classes_of s.config → calls ≡ length engine.log → calls ≤ 18446744073709551615 → run.figures ≡ whole_of calls wire (kept_figures classes w) mangled → wire ≡ s.wire → mangled ≡ is_some s.manner.mangle
-    → HasEnded s frames order run
-ended_run s frames order count w engine run classes calls wire mangled regular had few never ended log kept sockets number fits figures same manner =
+pub ended_run : (s : Setting) (frames : List Frame) (order count : ℕ) (w : Workers) (object : Seen) (sent : SentShown) (classes calls : ℕ) (wire : Wire) (mangled : Bool) → IsRegular s.config → (had : HadRounds s frames order count w object)
+    → count ≤ 18446744073709551616 → NeverStill s frames order count → HaveEnded w → sent.lists ≡ kept_lists w
+    → classes ≡ classes_of s.config → calls ≡ object.engine.calls → calls ≤ 18446744073709551615 → sent.figures ≡ whole_of calls wire (kept_figures classes w) mangled → wire ≡ s.wire → mangled ≡ is_some s.manner.mangle
+    → (run : Shown) × HasEnded s frames order run × IsShownBy object sent run
+ended_run s frames order count w object sent classes calls wire mangled regular had few never ended kept sockets number fits figures same manner =
     let legal : IsHistory s.config frames had.history = had.seated.run.legal in
-    let whole = whole_runs s frames had.history w engine had.seated ended in
+    let whole = whole_runs s frames had.history w object had.seated ended in
     let within : AreWithin s had.history = are_within s frames had.history regular legal whole in
-    record {
+    let run : Shown = record { calls = calls; pairs = length sent.lists; log = stored s.config.geometry s.config.sg had.history; sent = sent.lists; figures = sent.figures } in
+    let has : HasEnded s frames order run = record {
       history = had.history;
       count = count;
       few = few;
       never_still = never;
-      is = record { legal = legal; rounds = had.rounds; runs = all_runs s frames had.history w engine had.seated };
+      is = record { legal = legal; rounds = had.rounds; runs = all_runs s frames had.history w object had.seated };
       whole = whole;
-      log = log ∙ had.seated.run.log;
+      log = refl;
       holders = λ past later split. one_holder s.config frames past later (subst (IsHistory s.config frames) split legal);
-      figures = figures ∙ figures_whole s had.history wire mangled calls (kept_figures classes w) same manner (number ∙ ap length had.seated.run.log ∙ length-map had.history (stored_entry s.config.geometry s.config.sg)) fits
-          (ap (λ (n : ℕ). kept_figures n w) sockets ∙ all_figures s frames had.history w engine had.seated ended within);
-      sent = λ pair below. ap (λ lists. get_or lists pair []) kept ∙ all_sent s frames had.history w engine had.seated ended within pair below;
+      figures = figures ∙ figures_whole s had.history wire mangled calls (kept_figures classes w) same manner (number ∙ had.seated.run.calls) fits
+          (ap (λ (n : ℕ). kept_figures n w) sockets ∙ all_figures s frames had.history w object had.seated ended within);
+      sent = λ pair below. ap (λ lists. get_or lists pair []) kept ∙ all_sent s frames had.history w object had.seated ended within pair below;
       woken = λ past later pair split below.
           ended_lose_no_wakes 1 s frames past later pair regular (subst (IsHistory s.config frames) split legal)
           (subst (λ l. (who : ℕ) → who < callers_of s.config → IsWholeRunOf 1 s who (own who l)) split (λ who known. by_one s who (own who had.history) (whole who known))) below;
-    }
+    } in
+    (run, has, record { is = record { pairs = refl; lists = refl; figures = refl }; log = λ keeps. sym (had.seated.run.log keeps) })
 
 -- a run that has stalled
-pub stalled_run : (s : Setting) (frames : List Frame) (order round : ℕ) (w : Workers) (engine : Engine) → (had : HadRounds s frames order (round + 1) w engine) → (HaveEnded w → ⊥)
+pub stalled_run : (s : Setting) (frames : List Frame) (order round : ℕ) (w : Workers) (object : Seen) → (had : HadRounds s frames order (round + 1) w object) → (HaveEnded w → ⊥)
     → round ≤ 18446744073709551615 → StandStill s frames order 64 (round + 1) had.history → NeverStill s frames order round → HasStalled s frames order round
-stalled_run s frames order round w engine had going few still first =
-    let some = open_run s frames had.history w engine had.seated going in
+stalled_run s frames order round w object had going few still first =
+    let some = open_run s frames had.history w object had.seated going in
     record {
       few = few;
       past = record {
         history = had.history;
-        is = record { legal = had.seated.run.legal; rounds = had.rounds; runs = all_runs s frames had.history w engine had.seated };
+        is = record { legal = had.seated.run.legal; rounds = had.rounds; runs = all_runs s frames had.history w object had.seated };
         who = some.who;
         known = some.high;
         open_run = some.open_run;
@@ -234,3 +237,20 @@ stalled_run s frames order round w engine had going few still first =
       still = still;
       first = first;
     }
+
+-- a run whose log was kept
+pub logged_ended : (s : Setting) (frames : List Frame) (order : ℕ) (engine : Engine) (sent : SentShown) (run : Shown) → HasEnded s frames order run → IsShownBy (logged_seen engine) sent run
+    → HasEnded s frames order (shown_by engine sent)
+logged_ended s frames order engine sent run ended shown = record {
+  history = ended.history;
+  count = ended.count;
+  few = ended.few;
+  never_still = ended.never_still;
+  is = ended.is;
+  whole = ended.whole;
+  log = sym (shown.log refl) ∙ ended.log;
+  holders = ended.holders;
+  sent = λ pair below. ap (λ lists. get_or lists pair []) (sym shown.is.lists) ∙ ended.sent pair below;
+  figures = sym shown.is.figures ∙ ended.figures;
+  woken = ended.woken;
+}

@@ -10,7 +10,7 @@ use Rattle.xsk_model.specs.declared.call.Reply.TheVariants.{Old}
 use Rattle.xsk_model.specs.declared.call.Act.{Act}
 use Rattle.xsk_model.specs.declared.call.Act.TheVariants.{Call as Calls, Ended as IsEnd}
 use Rattle.xsk_model.proofs.Few.{apps_few}
-use Rattle.xsk_plain.specs.Engine.{Engine}
+use Rattle.xsk_sim.specs.Server.{Seen}
 use Rattle.xsk_turns.specs.Stepping.{joined_ask}
 use Rattle.xsk_turns.specs.Turns.{Judged, seat_of, start, turn, IsWholeDriverRun}
 use Rattle.xsk_turns.specs.Workers.{Setting, input_of}
@@ -72,8 +72,8 @@ few_at s who (Driver d) (Calls call) stands after below = record { regular = sta
 few_at s who (Driver d) IsEnd stands after below = absurd (some_call s.wire s.config who (input_of s who) (after.driver below))
 few_at s who (App a) act stands after below = absurd (omega (arith, stands.caller, below))
 
-few_packets : (s : Setting) (frames : List Frame) (w : Workers) (engine : Engine) → AreSeated s frames [] w engine → (who : ℕ) → who < length s.config.pairs → HasFew s who
-few_packets s frames w engine seated who below =
+few_packets : (s : Setting) (frames : List Frame) (w : Workers) (object : Seen) → AreSeated s frames [] w object → (who : ℕ) → who < length s.config.pairs → HasFew s who
+few_packets s frames w object seated who below =
     each_tells w.seats.items 0 _ (λ k. k < length s.config.pairs → HasFew s k) seated.seats
     (λ k seat sits. few_at s k seat.machine (joined_ask seat.ask seat.items) sits.0 sits.1) who (omega arith) (omega (arith, below, seated.count)) below
 
@@ -95,15 +95,15 @@ few_rounds s config geometry few =
     omega (arith, packets, config.pairs_few, config.few, geometry.few, apps_few s.config config, few_changes s.config.closing)
 
 -- where they had all rounds that a u64 counts, and none of these stood still, all have ended
-pub never_so_many : (s : Setting) (frames : List Frame) (order count still : ℕ) (begun w : Workers) (first engine : Engine) → AreSeated s frames [] begun first → Gone s frames order count still w engine
+pub never_so_many : (s : Setting) (frames : List Frame) (order count still : ℕ) (begun w : Workers) (first object : Seen) → AreSeated s frames [] begun first → Gone s frames order count still w object
     → NeverStill s frames order count → (HaveEnded w → ⊥) → count < 18446744073709551615
-never_so_many s frames order count still begun w first engine seated gone never going =
+never_so_many s frames order count still begun w first object seated gone never going =
     let few = few_packets s frames begun first seated in
     let opened = seated.run.legal.opened in
-    let some = open_run s frames gone.had.history w engine gone.had.seated going in
+    let some = open_run s frames gone.had.history w object gone.had.seated going in
     let one = few 0 opened.config.pairs_some in
     omega (
       arith,
-      ends_with_closings s frames order count gone.had.history some.who one.regular (round_history s frames order count w engine gone.had) some.high some.open_run never,
+      ends_with_closings s frames order count gone.had.history some.who one.regular (round_history s frames order count w object gone.had) some.high some.open_run never,
       few_rounds s opened.config opened.geometry few,
     )

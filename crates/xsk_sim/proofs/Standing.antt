@@ -4,7 +4,7 @@ use Rattle.std.proofs.lemmas.Bool.{cases_lt}
 use Rattle.xsk_umem.specs.Frame.{Frame}
 use Rattle.xsk_model.specs.Config.{callers_of}
 use Rattle.xsk_model.specs.Entry.{Entry, own}
-use Rattle.xsk_plain.specs.Engine.{Engine}
+use Rattle.xsk_sim.specs.Server.{Seen}
 use Rattle.xsk_turns.specs.Workers.{Setting, IsWholeRun}
 use Rattle.xsk_sim.specs.Order.{number_at, next_number, start_of, rotated}
 use Rattle.xsk_sim.specs.Rounds.{AreTurns, AreRounds, IsRound}
@@ -54,26 +54,26 @@ module _ (s : Setting) (frames : List Frame) (order count still : ℕ) (h es : L
       none_longer (suc longer) below more = changed (last longer more).1
 
 -- after so many rounds
-pub record Gone (s : Setting) (frames : List Frame) (order count still : ℕ) (w : Workers) (engine : Engine) : Type 0 where
-  pub had : HadRounds s frames order count w engine
+pub record Gone (s : Setting) (frames : List Frame) (order count still : ℕ) (w : Workers) (object : Seen) : Type 0 where
+  pub had : HadRounds s frames order count w object
   pub stood : HaveStood s frames order count still had.history
 
-pub gone_none : (s : Setting) (frames : List Frame) (order : ℕ) (w : Workers) (engine : Engine) → AreSeated s frames [] w engine → Gone s frames order 0 0 w engine
-gone_none s frames order w engine seated = record { had = record { history = []; rounds = refl; seated = seated }; stood = record { stood = refl; most = longer_none } }
+pub gone_none : (s : Setting) (frames : List Frame) (order : ℕ) (w : Workers) (object : Seen) → AreSeated s frames [] w object → Gone s frames order 0 0 w object
+gone_none s frames order w object seated = record { had = record { history = []; rounds = refl; seated = seated }; stood = record { stood = refl; most = longer_none } }
   where
     longer_none : (longer : ℕ) → 0 < longer → StandStill s frames order longer 0 [] → ⊥
     longer_none zero below more = omega arith
     longer_none (suc longer) below more = more
 
-pub round_history : (s : Setting) (frames : List Frame) (order count : ℕ) (w : Workers) (engine : Engine) → (had : HadRounds s frames order count w engine) → IsRoundHistory s frames order count had.history
-round_history s frames order count w engine had = record { legal = had.seated.run.legal; rounds = had.rounds; runs = all_runs s frames had.history w engine had.seated }
+pub round_history : (s : Setting) (frames : List Frame) (order count : ℕ) (w : Workers) (object : Seen) → (had : HadRounds s frames order count w object) → IsRoundHistory s frames order count had.history
+round_history s frames order count w object had = record { legal = had.seated.run.legal; rounds = had.rounds; runs = all_runs s frames had.history w object had.seated }
 
 -- one round more
-pub gone_more : (s : Setting) (frames : List Frame) (order count still now number next : ℕ) (quiet : Bool) (w v : Workers) (engine later : Engine) → (gone : Gone s frames order count still w engine)
+pub gone_more : (s : Setting) (frames : List Frame) (order count still now number next : ℕ) (quiet : Bool) (w v : Workers) (object later : Seen) → (gone : Gone s frames order count still w object)
     → number ≡ number_at order count → HadRound s frames gone.had.history number next v later quiet
     → (IsTrue quiet → now ≡ still + 1) → ((IsTrue quiet → ⊥) → now ≡ 0)
     → Gone s frames order (count + 1) now v later × (next ≡ number_at order (count + 1))
-gone_more s frames order count still now number next quiet w v engine later gone at round more none =
+gone_more s frames order count still now number next quiet w v object later gone at round more none =
     let h : List Entry = gone.had.history in
     let es : List Entry = round.turns.entries in
     let e : suc count ≡ count + 1 = omega arith in
@@ -99,28 +99,28 @@ never_push s frames order count before here round below still = ⊎_elim
     (λ (high : count ≤ round). let e : round ≡ count = omega (arith, high, below) in here (subst (StandsStill s frames order) e still))
     (cases_lt round count)
 
-pub never_more : (s : Setting) (frames : List Frame) (order count still : ℕ) (w : Workers) (engine : Engine) → NeverStill s frames order count → Gone s frames order (count + 1) still w engine → still < 64
+pub never_more : (s : Setting) (frames : List Frame) (order count still : ℕ) (w : Workers) (object : Seen) → NeverStill s frames order count → Gone s frames order (count + 1) still w object → still < 64
     → NeverStill s frames order (count + 1)
-never_more s frames order count still w engine before gone few = never_push s frames order count before
+never_more s frames order count still w object before gone few = never_push s frames order count before
     (λ x.
-    let e : x.past.history ≡ gone.had.history = one_history s frames order (count + 1) x.past.history gone.had.history x.past.is (round_history s frames order (count + 1) w engine gone.had) in
+    let e : x.past.history ≡ gone.had.history = one_history s frames order (count + 1) x.past.history gone.had.history x.past.is (round_history s frames order (count + 1) w object gone.had) in
     gone.stood.most 64 few (subst (StandStill s frames order 64 (count + 1)) e x.still))
 
-pub never_ended : (s : Setting) (frames : List Frame) (order count still : ℕ) (w : Workers) (engine : Engine) → NeverStill s frames order count → Gone s frames order (count + 1) still w engine → HaveEnded w
+pub never_ended : (s : Setting) (frames : List Frame) (order count still : ℕ) (w : Workers) (object : Seen) → NeverStill s frames order count → Gone s frames order (count + 1) still w object → HaveEnded w
     → NeverStill s frames order (count + 1)
-never_ended s frames order count still w engine before gone ended = never_push s frames order count before
+never_ended s frames order count still w object before gone ended = never_push s frames order count before
     (λ x.
-    let e : x.past.history ≡ gone.had.history = one_history s frames order (count + 1) x.past.history gone.had.history x.past.is (round_history s frames order (count + 1) w engine gone.had) in
-    x.past.open_run (subst (λ l. IsWholeRun s x.past.who (own x.past.who l)) (sym e) (whole_runs s frames gone.had.history w engine gone.had.seated ended x.past.who x.past.known)))
+    let e : x.past.history ≡ gone.had.history = one_history s frames order (count + 1) x.past.history gone.had.history x.past.is (round_history s frames order (count + 1) w object gone.had) in
+    x.past.open_run (subst (λ l. IsWholeRun s x.past.who (own x.past.who l)) (sym e) (whole_runs s frames gone.had.history w object gone.had.seated ended x.past.who x.past.known)))
 
 -- where the rounds stop, with some that have not ended
-abbrev pub Stops : Setting → List Frame → ℕ → Workers → Engine → ℕ → Type 0
-Stops s frames order w engine round =
-    (had : HadRounds s frames order (round + 1) w engine) × (HaveEnded w → ⊥) × (round ≤ 18446744073709551615)
+abbrev pub Stops : Setting → List Frame → ℕ → Workers → Seen → ℕ → Type 0
+Stops s frames order w object round =
+    (had : HadRounds s frames order (round + 1) w object) × (HaveEnded w → ⊥) × (round ≤ 18446744073709551615)
     × StandStill s frames order 64 (round + 1) had.history × NeverStill s frames order round
 
-pub stops : (s : Setting) (frames : List Frame) (order round still : ℕ) (w : Workers) (engine : Engine) → Gone s frames order (round + 1) still w engine → (HaveEnded w → ⊥)
-    → round ≤ 18446744073709551615 → still ≡ 64 → NeverStill s frames order round → Stops s frames order w engine round
-stops s frames order round still w engine gone going few long first =
+pub stops : (s : Setting) (frames : List Frame) (order round still : ℕ) (w : Workers) (object : Seen) → Gone s frames order (round + 1) still w object → (HaveEnded w → ⊥)
+    → round ≤ 18446744073709551615 → still ≡ 64 → NeverStill s frames order round → Stops s frames order w object round
+stops s frames order round still w object gone going few long first =
     let stood : StandStill s frames order 64 (round + 1) gone.had.history = subst (λ (n : ℕ). StandStill s frames order n (round + 1) gone.had.history) long gone.stood.stood in
     (gone.had, going, few, stood, first)

@@ -9,7 +9,7 @@ use Rattle.xsk_model.proofs.Few.{apps_few}
 use Rattle.xsk_model.specs.Entry.{Told, Entry, own}
 use Rattle.xsk_model.proofs.Folds.{own-push_other}
 use Rattle.xsk_model.specs.declared.call.Act.{Act}
-use Rattle.xsk_plain.specs.Engine.{Engine}
+use Rattle.xsk_sim.specs.Server.{Seen, OnlyRoom}
 use Rattle.xsk_sim.specs.Order.{rotated}
 use Rattle.xsk_sim.specs.Rounds.{IsTurn, AreTurns}
 use Rattle.xsk_turns.specs.Workers.{Setting, IsWholeRun}
@@ -59,18 +59,18 @@ pub noted_on : (s : Setting) (h later : List Entry) (who noted : ℕ) → own wh
 noted_on s h later who noted same is = record { driver = λ below. is.driver below ∙ ap (settled_of s who) (sym same); app = is.app }
 
 -- callers who had their turns, and then further ones
-pub had_both : (s : Setting) (frames : List Frame) (h : List Entry) (ws vs : List ℕ) (w v : Workers) (engine later : Engine) (a b c : Bool) → IsTrue c ↔ (IsTrue a × IsTrue b)
-    → (had : HadTurns s frames h ws w engine a) → HadTurns s frames (h ++ had.entries) vs v later b → HadTurns s frames h (ws ++ vs) v later c
-had_both s frames h ws vs w v engine later a b c both had more = record {
+pub had_both : (s : Setting) (frames : List Frame) (h : List Entry) (ws vs : List ℕ) (w v : Workers) (object later : Seen) (a b c : Bool) → IsTrue c ↔ (IsTrue a × IsTrue b)
+    → (had : HadTurns s frames h ws w object a) → HadTurns s frames (h ++ had.entries) vs v later b → HadTurns s frames h (ws ++ vs) v later c
+had_both s frames h ws vs w v object later a b c both had more = record {
   entries = had.entries ++ more.entries;
   turns = turns_both (IsWholeRun s) h ws vs had.entries more.entries had.turns more.turns;
   seated = subst (λ l. AreSeated s frames l v later) (append_assoc h had.entries more.entries) more.seated;
   quiet = told_both s frames h had.entries more.entries a b c both had.quiet more.quiet;
 }
 
-pub had_none : (s : Setting) (frames : List Frame) (h : List Entry) (w : Workers) (engine : Engine) → AreSeated s frames h w engine → HadTurns s frames h [] w engine true
-had_none s frames h w engine seated =
-    record { entries = []; turns = refl; seated = subst (λ l. AreSeated s frames l w engine) (sym (append-nil h)) seated; quiet = (λ yes. tt, λ none. refl) }
+pub had_none : (s : Setting) (frames : List Frame) (h : List Entry) (w : Workers) (object : Seen) → AreSeated s frames h w object → HadTurns s frames h [] w object true
+had_none s frames h w object seated =
+    record { entries = []; turns = refl; seated = subst (λ l. AreSeated s frames l w object) (sym (append-nil h)) seated; quiet = (λ yes. tt, λ none. refl) }
 
 -- ---- callers in turn
 
@@ -126,9 +126,9 @@ rotated_all callers start below = take_all callers (rotated callers start) (omeg
 
 -- ---- rounds
 
--- room in the log leaves the workers where they are
-pub seated_same : (s : Setting) (frames : List Frame) (h : List Entry) (w : Workers) (old new : Engine) → AreSeated s frames h w old
-    → new ≡ record old { spare_entries = new.spare_entries; spare_bytes = new.spare_bytes } → AreSeated s frames h w new
+-- room for calls leaves the workers where they are
+pub seated_same : (s : Setting) (frames : List Frame) (h : List Entry) (w : Workers) (old new : Seen) → AreSeated s frames h w old
+    → OnlyRoom old new → AreSeated s frames h w new
 seated_same s frames h w old new seated same = record {
   run = run_same s frames h old new seated.run same;
   seats = seated.seats;
@@ -137,11 +137,11 @@ seated_same s frames h w old new seated same = record {
 }
 
 -- workers that had turns go on
-pub going_on : {w v : Workers} {before after : Engine} {callers : List ℕ} {still : Bool} → (g : AreGoing w before) → HadTurns g.setting g.frames g.history callers v after still → AreGoing v after
+pub going_on : {w v : Workers} {before after : Seen} {callers : List ℕ} {still : Bool} → (g : AreGoing w before) → HadTurns g.setting g.frames g.history callers v after still → AreGoing v after
 going_on g had = record { setting = g.setting; frames = g.frames; history = g.history ++ had.entries; seated = had.seated }
 
 -- and are 1 at least, and few
-pub going_few : {w : Workers} {engine : Engine} → AreGoing w engine → (vec_len w.seats ≤ 72) × (0 < vec_len w.seats)
+pub going_few : {w : Workers} {object : Seen} → AreGoing w object → (vec_len w.seats ≤ 72) × (0 < vec_len w.seats)
 going_few g =
     let config = g.seated.run.legal.opened.config in
     let apps = apps_few g.setting.config config in

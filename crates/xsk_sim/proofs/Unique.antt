@@ -16,8 +16,9 @@ use Rattle.xsk_turns.specs.AppTurns.{app_start_by, app_turn}
 use Rattle.xsk_sim.specs.Order.{number_at, start_of, rotated}
 use Rattle.xsk_sim.specs.Rounds.{IsTurn, AreTurns, AreRounds}
 use Rattle.xsk_turns.specs.Workers.{Setting, input_of, IsWorkerRun, IsWholeRun}
+use Rattle.xsk_machine.specs.Acts.{sent_of}
 use Rattle.xsk_machine.specs.Figured.{figures_of}
-use Rattle.xsk_sim.specs.Runs.{IsRoundHistory, HasEnded, HasStalled, OneHistory, OneLog, OneFigures, EndsOrStalls, OneStall}
+use Rattle.xsk_sim.specs.Runs.{IsRoundHistory, HasEnded, HasStalled, OneHistory, OneLog, OneFigures, OneSent, EndsOrStalls, OneStall}
 use Rattle.xsk_sim.specs.Shown.{Shown}
 use Rattle.xsk_model.specs.Stored.{stored}
 
@@ -159,6 +160,10 @@ one_log s frames order run other first second =
 
 pub one_figures : OneFigures
 one_figures s frames order run other first second = first.figures ∙ ap (figures_of s) (one_run s frames order run other first second) ∙ sym second.figures
+
+pub one_sent : OneSent
+one_sent s frames order run other pair first second below =
+    first.sent pair below ∙ ap (λ h. sent_of s h pair) (one_run s frames order run other first second) ∙ sym (second.sent pair below)
 
 pub ends_or_stalls : EndsOrStalls
 ends_or_stalls s frames order round run over stalled =

@@ -10,3 +10,4 @@ pub mod Bounds
 pub mod Counts
 pub mod Journal
 pub mod Rooms
+pub mod Server

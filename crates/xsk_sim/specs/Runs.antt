@@ -143,6 +143,11 @@ abbrev pub OneFigures : Type 0
 OneFigures = (s : Setting) (frames : List Frame) (order : ℕ) (run other : Shown) → HasEnded s frames order run → HasEnded s frames order other
     → run.figures ≡ other.figures
 
+-- and one list of packets that each driver sent
+abbrev pub OneSent : Type 0
+OneSent = (s : Setting) (frames : List Frame) (order : ℕ) (run other : Shown) (pair : ℕ) → HasEnded s frames order run → HasEnded s frames order other
+    → pair < length s.config.pairs → slice_index_or run.sent pair [] ≡ slice_index_or other.sent pair []
+
 -- and no run both ends and stalls
 abbrev pub EndsOrStalls : Type 0
 EndsOrStalls = (s : Setting) (frames : List Frame) (order round : ℕ) (run : Shown) → HasEnded s frames order run → HasStalled s frames order round → ⊥

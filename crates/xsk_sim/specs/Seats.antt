@@ -6,7 +6,6 @@ use Rattle.xsk_model.specs.Config.{callers_of}
 use Rattle.xsk_model.specs.Entry.{Told, Entry, own}
 use Rattle.xsk_model.specs.declared.call.Act.{Act}
 use Rattle.xsk_model.specs.declared.call.Act.TheVariants.{Ended as IsEnd}
-use Rattle.xsk_plain.specs.Engine.{Engine}
 use Rattle.xsk_machine.specs.declared.figures.DriverFigures.{DriverFigures}
 use Rattle.xsk_sim.specs.Order.{start_of, rotated, next_number}
 use Rattle.xsk_sim.specs.Rounds.{AreTurns, AreRounds}
@@ -15,6 +14,7 @@ use Rattle.xsk_turns.specs.Workers.{Setting, IsWholeRun}
 use Rattle.xsk_machine.specs.Acts.{IsActAfter}
 use Rattle.xsk_machine.specs.Workers.{Stands, kept_of, figures_kept}
 use Rattle.xsk_machine.specs.declared.worker.AnyWorker.{AnyWorker}
+use Rattle.xsk_sim.specs.Server.{Seen}
 use Rattle.xsk_sim.specs.Turning.{HasRun}
 use Rattle.xsk_sim.specs.declared.rounds.Workers.{Workers}
 
@@ -45,43 +45,43 @@ pub record AreSet (s : Setting) (w : Workers) : Type 0 where
   pub settled : EachFrom w.seats.items 0 (λ who seat. seat.settled ≡ 0)
   pub count : vec_len w.seats ≡ callers_of s.config
 
--- all callers stand for their own calls and replies in a history that the engine has run, with what is noted at their seats
-pub record AreSeated (s : Setting) (frames : List Frame) (h : List Entry) (w : Workers) (engine : Engine) : Type 0 where
-  pub run : HasRun s frames h engine
+-- all callers stand for their own calls and replies in a history that the object has run, with what is noted at their seats
+pub record AreSeated (s : Setting) (frames : List Frame) (h : List Entry) (w : Workers) (object : Seen) : Type 0 where
+  pub run : HasRun s frames h object
   pub seats : EachFrom w.seats.items 0 (λ who seat. Sits s (own_in h) who seat.machine (joined_ask seat.ask seat.items))
   pub noted : EachFrom w.seats.items 0 (λ who seat. IsNoted s h who seat.settled)
   pub count : vec_len w.seats ≡ callers_of s.config
 
 -- they are so after some history
-pub record AreGoing (w : Workers) (engine : Engine) : Type 0 where
+pub record AreGoing (w : Workers) (object : Seen) : Type 0 where
   pub setting : Setting
   pub frames : List Frame
   pub history : List Entry
-  pub seated : AreSeated setting frames history w engine
+  pub seated : AreSeated setting frames history w object
 
 -- they are so before any call
-pub record AreReady (w : Workers) (engine : Engine) : Type 0 where
+pub record AreReady (w : Workers) (object : Seen) : Type 0 where
   pub setting : Setting
   pub frames : List Frame
-  pub seated : AreSeated setting frames [] w engine
+  pub seated : AreSeated setting frames [] w object
 
 -- after a history, the callers had their turns, and it is told whether they changed nothing
-pub record HadTurns (s : Setting) (frames : List Frame) (h : List Entry) (callers : List ℕ) (w : Workers) (engine : Engine) (still : Bool) : Type 0 where
+pub record HadTurns (s : Setting) (frames : List Frame) (h : List Entry) (callers : List ℕ) (w : Workers) (object : Seen) (still : Bool) : Type 0 where
   pub entries : List Entry
   pub turns : AreTurns (IsWholeRun s) h callers entries
-  pub seated : AreSeated s frames (h ++ entries) w engine
+  pub seated : AreSeated s frames (h ++ entries) w object
   pub quiet : IsTrue still ↔ AreQuiet s frames h entries
 
 -- all callers had the round with this order number, and the next number stands
-pub record HadRound (s : Setting) (frames : List Frame) (h : List Entry) (order next : ℕ) (w : Workers) (engine : Engine) (still : Bool) : Type 0 where
-  pub turns : HadTurns s frames h (rotated (callers_of s.config) (start_of (callers_of s.config) order)) w engine still
+pub record HadRound (s : Setting) (frames : List Frame) (h : List Entry) (order next : ℕ) (w : Workers) (object : Seen) (still : Bool) : Type 0 where
+  pub turns : HadTurns s frames h (rotated (callers_of s.config) (start_of (callers_of s.config) order)) w object still
   pub number : next ≡ next_number order
 
 -- they had so many rounds, from the first on
-pub record HadRounds (s : Setting) (frames : List Frame) (order count : ℕ) (w : Workers) (engine : Engine) : Type 0 where
+pub record HadRounds (s : Setting) (frames : List Frame) (order count : ℕ) (w : Workers) (object : Seen) : Type 0 where
   pub history : List Entry
   pub rounds : AreRounds (IsWholeRun s) (callers_of s.config) order count history
-  pub seated : AreSeated s frames history w engine
+  pub seated : AreSeated s frames history w object
 
 -- of these, the last ones, so many, changed nothing, and no further ones before them
 pub record HaveStood (s : Setting) (frames : List Frame) (order count still : ℕ) (h : List Entry) : Type 0 where

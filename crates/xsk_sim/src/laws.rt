@@ -1,7 +1,7 @@
 //! The laws of runs, each the contract of a function that does nothing. They are stated in `specs/Runs.antt`.
 
 ghost use Rattle.xsk_sim.specs.Bounds.{EndsOrStandsStill, EndsOrStandsStillWithClosings, NoneStandsStill};
-ghost use Rattle.xsk_sim.specs.Runs.{OneHistory, OneLog, OneFigures, EndsOrStalls, OneStall, EndsAsRuled, StallsAsRuled, EndedIsForwarded, EndedIsExpected, EndedIsForwardedUntil, EndedIsExpectedUntil, EntriesStandInRounds};
+ghost use Rattle.xsk_sim.specs.Runs.{OneHistory, OneLog, OneFigures, OneSent, EndsOrStalls, OneStall, EndsAsRuled, StallsAsRuled, EndedIsForwarded, EndedIsExpected, EndedIsForwardedUntil, EndedIsExpectedUntil, EntriesStandInRounds};
 
 /// For each number of rounds there is one history in rounds of the workers of a configuration over packets with verdicts.
 pub fn one_history()
@@ -16,6 +16,11 @@ pub fn one_log()
 /// So there is one list of figures.
 pub fn one_figures()
     ensures { OneFigures }
+{}
+
+/// And one list of packets that each driver sent.
+pub fn one_sent()
+    ensures { OneSent }
 {}
 
 /// No run both ends and stalls.

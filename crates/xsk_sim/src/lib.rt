@@ -6,10 +6,11 @@ pub mod laws;
 mod order;
 mod rounds;
 mod seat;
+mod server;
 mod simulation;
 
 pub use journal::{append_journal, journal_text};
-pub use simulation::{Run, SimError, simulate};
+pub use simulation::{Run, SimError, simulate, simulate_unlogged};
 pub use xsk_driver::Wire;
 pub use xsk_machine::Figures;
 pub use xsk_turns::Manner;

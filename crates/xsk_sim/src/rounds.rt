@@ -9,12 +9,9 @@ ghost use Rattle.xsk_sim.specs.Seats.{AreSeated, AreGoing, HadTurns, HadRound, H
 
 use crate::order::Order;
 use crate::seat::Seat;
+use crate::server::Server;
 use xsk_machine::AnyWorker;
-use xsk_plain::Plain;
 use xsk_umem::OutOfMemory;
-
-/// The most payload bytes of a call: 32 items with chunks of 4,096 bytes.
-const MOST_PAYLOAD: u32 = 32 * 4096;
 
 /// All workers: the drivers by their pairs, then the applications by their numbers.
 #[derive(Drop)]
@@ -43,26 +40,26 @@ impl Workers<'_> {
     }
 
     /// Lets each worker that hasn't ended make one call, from one worker on in turn, and tells whether these changed nothing.
-    /// The log has room for all of them before the first.
-    pub(crate) fn round(
+    /// There is room for all of them before the first.
+    pub(crate) fn round<S: Server>(
         &mut self,
-        plain: &mut Plain,
+        server: &mut S,
         order: &mut Order,
     ) -> Result<bool, OutOfMemory>
-        requires geometry { IsGeometry plain.old.config.geometry }
-        requires going { AreGoing self.old plain.old }
-        ensures config { plain.new.config ≡ plain.old.config }
+        requires geometry { IsGeometry (S.seen server.old).engine.config.geometry }
+        requires going { AreGoing self.old (S.seen server.old) }
+        ensures config { (S.seen server.new).engine.config ≡ (S.seen server.old).engine.config }
         ensures seats { vec_len self.new.seats ≡ vec_len self.old.seats }
-        ensures round { (s : Setting) (frames : List Frame) (h : List Entry) → AreSeated s frames h self.old plain.old
-            → IfOk result (HadRound s frames h order.old.number order.new.number self.new plain.new) }
+        ensures round { (s : Setting) (frames : List Frame) (h : List Entry) → AreSeated s frames h self.old (S.seen server.old)
+            → IfOk result (HadRound s frames h order.old.number order.new.number self.new (S.seen server.new)) }
     {
         let callers = self.count();
-        plain.reserve_log(callers, callers * MOST_PAYLOAD)?;
+        server.make_room(callers)?;
         let start = order.start(callers);
         let mut who = start;
         let mut still = true;
         for _turn in 0..callers {
-            still &= self.step(plain, who);
+            still &= self.step(server, who);
             who += 1;
             if who == callers {
                 who = 0;
@@ -71,21 +68,21 @@ impl Workers<'_> {
         Ok(still)
     }
 
-    /// Lets the worker with this number make its call, if it hasn't ended, and tells whether it changed nothing. The log must
-    /// have room for any call.
-    fn step(&mut self, plain: &mut Plain, who: u32) -> bool
-        requires geometry { IsGeometry plain.old.config.geometry }
-        requires going { AreGoing self.old plain.old }
+    /// Lets the worker with this number make its call, if it hasn't ended, and tells whether it changed nothing. There must
+    /// be room for any call.
+    fn step<S: Server>(&mut self, server: &mut S, who: u32) -> bool
+        requires geometry { IsGeometry (S.seen server.old).engine.config.geometry }
+        requires going { AreGoing self.old (S.seen server.old) }
         requires who { who < vec_len self.old.seats }
-        requires entries { 1 ≤ plain.old.spare_entries }
-        requires bytes { most_payload ≤ plain.old.spare_bytes }
-        ensures config { plain.new.config ≡ plain.old.config }
-        ensures entries { plain.old.spare_entries ≤ plain.new.spare_entries + 1 }
-        ensures bytes { plain.old.spare_bytes ≤ plain.new.spare_bytes + most_payload }
+        requires entries { 1 ≤ (S.seen server.old).engine.spare_entries }
+        requires bytes { most_payload ≤ (S.seen server.old).engine.spare_bytes }
+        ensures config { (S.seen server.new).engine.config ≡ (S.seen server.old).engine.config }
+        ensures entries { (S.seen server.old).engine.spare_entries ≤ (S.seen server.new).engine.spare_entries + 1 }
+        ensures bytes { (S.seen server.old).engine.spare_bytes ≤ (S.seen server.new).engine.spare_bytes + most_payload }
         ensures seats { vec_len self.new.seats ≡ vec_len self.old.seats }
-        ensures turn { (s : Setting) (frames : List Frame) (h : List Entry) → AreSeated s frames h self.old plain.old
-            → HadTurns s frames h (who ∷ []) self.new plain.new result }
+        ensures turn { (s : Setting) (frames : List Frame) (h : List Entry) → AreSeated s frames h self.old (S.seen server.old)
+            → HadTurns s frames h (who ∷ []) self.new (S.seen server.new) result }
     {
-        self.seats[who as usize].step(plain, who)
+        self.seats[who as usize].step(server, who)
     }
 }

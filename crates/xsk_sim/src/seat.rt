@@ -17,9 +17,9 @@ ghost use Rattle.xsk_sim.specs.Given.{IsGivenBack-prop};
 ghost use Rattle.xsk_sim.specs.Rooms.{most_payload};
 ghost use Rattle.xsk_sim.specs.Turning.{HasRun, TakesTurn, Notes};
 
+use crate::server::Server;
 use xsk_machine::{Machine, is_quiet};
 use xsk_model::Ask;
-use xsk_plain::Plain;
 use xsk_umem::Batch;
 
 /// A worker in the rounds, with the call that it makes next (none where it has ended) and the batch that is lent to its
@@ -68,28 +68,27 @@ impl<M: Machine> Seat<M> {
     }
 
     /// Makes the worker's next call, if it hasn't ended, and tells whether it changed nothing: neither the object nor the
-    /// number of packets that have their disposals. It must be a call that can be performed, and the log must
-    /// have room for any call.
-    pub(crate) fn step(&mut self, plain: &mut Plain, who: u32) -> bool
-        requires geometry { IsGeometry plain.old.config.geometry }
-        requires can { (call : Call) → joined_ask self.old.ask self.old.items ≡ Calls call → CanPerform plain.old.config plain.old.rings call }
-        requires entries { 1 ≤ plain.old.spare_entries }
-        requires bytes { most_payload ≤ plain.old.spare_bytes }
-        ensures config { plain.new.config ≡ plain.old.config }
-        ensures entries { plain.old.spare_entries ≤ plain.new.spare_entries + 1 }
-        ensures bytes { plain.old.spare_bytes ≤ plain.new.spare_bytes + most_payload }
-        ensures turn { (s : Setting) (frames : List Frame) (h : List Entry) → HasRun s frames h plain.old
+    /// number of packets that have their disposals. It must be a call that can be performed, and there must be
+    /// room for any call.
+    pub(crate) fn step<S: Server>(&mut self, server: &mut S, who: u32) -> bool
+        requires geometry { IsGeometry (S.seen server.old).engine.config.geometry }
+        requires can { (call : Call) → joined_ask self.old.ask self.old.items ≡ Calls call → CanPerform (S.seen server.old).engine.config (S.seen server.old).engine.rings call }
+        requires entries { 1 ≤ (S.seen server.old).engine.spare_entries }
+        requires bytes { most_payload ≤ (S.seen server.old).engine.spare_bytes }
+        ensures config { (S.seen server.new).engine.config ≡ (S.seen server.old).engine.config }
+        ensures entries { (S.seen server.old).engine.spare_entries ≤ (S.seen server.new).engine.spare_entries + 1 }
+        ensures bytes { (S.seen server.old).engine.spare_bytes ≤ (S.seen server.new).engine.spare_bytes + most_payload }
+        ensures turn { (s : Setting) (frames : List Frame) (h : List Entry) → HasRun s frames h (S.seen server.old)
             → M.stands s who self.old.machine (joined_ask self.old.ask self.old.items) (own who h)
             → IsActAfter s who (joined_ask self.old.ask self.old.items) (own who h)
-            → (t : TakesTurn s frames who h (M.stands s who self.new.machine (joined_ask self.new.ask self.new.items)) (joined_ask self.new.ask self.new.items) plain.new)
+            → (t : TakesTurn s frames who h (M.stands s who self.new.machine (joined_ask self.new.ask self.new.items)) (joined_ask self.new.ask self.new.items) (S.seen server.new))
             × Notes (joined_ask self.old.ask self.old.items) self.old.settled (M.has_settled self.old.machine) self.new.settled result t.entries }
     {
         let Some(ask) = self.ask else {
             return true;
         };
-        let _count = self.items.len();
         let settled = self.machine.settled();
-        let answer = plain.serve(who, ask, &mut self.items);
+        let answer = server.serve(who, ask, &mut self.items);
         let still = is_quiet(ask, answer, self.settled, settled);
         self.settled = settled;
         self.machine

@@ -14,7 +14,7 @@ ghost use Rattle.xsk_turns.specs.Inputs.{inputs_of};
 ghost use Rattle.xsk_driver.specs.Asking.{IsAnswer};
 ghost use Rattle.xsk_machine.specs.Workers.{AreNew, IsAskedOnce, setting_by};
 ghost use Rattle.xsk_driver.specs.Sent.{IsShort};
-ghost use Rattle.xsk_sim.specs.Shown.{HasShortPackets, packets_in, shown_by};
+ghost use Rattle.xsk_sim.specs.Shown.{HasShortPackets, IsSentBy, IsShownBy, Shown, packets_in};
 ghost use Rattle.xsk_prog.specs.Chain.{AllObey, SamePrograms};
 ghost use Rattle.xsk_turns.specs.Workers.{Setting, AreGiven};
 ghost use Rattle.xsk_sim.specs.Runs.{HasEnded, HasStalled, NeverStill, HasEndedUnder, HasStalledUnder};
@@ -25,6 +25,7 @@ ghost use Rattle.xsk_sim.specs.Seats.{AreSeated, AreReady, AreSet, HadRounds, Ha
 use crate::order::Order;
 use crate::rounds::Workers;
 use crate::seat::Seat;
+use crate::server::Server;
 use std::alloc::Global;
 use std::marker::Model;
 use std::vec::IntoIter;
@@ -33,7 +34,7 @@ use xsk_driver::{Driver, Wire};
 use xsk_log::{Lines, Log};
 use xsk_machine::{AnyWorker, Collected, Figures, Inputs, Sent, drivers_for, worker_of};
 use xsk_model::Config;
-use xsk_plain::Plain;
+use xsk_plain::{Plain, Unlogged};
 use xsk_prog::{Chain, Verdict};
 use xsk_turns::Manner;
 use xsk_umem::{Frames, OutOfMemory, PacketList};
@@ -144,6 +145,7 @@ const STILL_ROUNDS: u64 = 64;
 /// history in rounds in which each worker's own calls and replies are a whole run of its turns, and one that has stalled is such
 /// a history of all these rounds, in which those of some worker aren't. Where each ring has 32 entries or more, and each pair's pool
 /// 18 frames or more, and no socket is closed, it never stalls.
+#[allow(clippy::too_many_arguments)]
 pub fn simulate<F: Fn(&[u8], u32) -> Verdict>(
     alloc: Global,
     config: Config,
@@ -168,6 +170,70 @@ pub fn simulate<F: Fn(&[u8], u32) -> Verdict>(
         → HasStalledUnder F.Fn chain.old wire manner config packets.now frames.items order round }
     ensures goes_on { HasAmpleRoom config → config.closing ≡ None → manner ≡ plain_manner → (round : ℕ) → result ≡ Err (SimError.Stalled round) → ⊥ }
 {
+    let (plain, sent) = run_on::<F, Plain>(
+        alloc, config, frames, packets, chain, wire, order, manner,
+    )?;
+    Ok(Run { plain, sent })
+}
+
+/// The same run, of whose calls no log is kept: what each driver sent, and the figures. It takes no memory for the calls.
+#[allow(clippy::too_many_arguments)]
+pub fn simulate_unlogged<F: Fn(&[u8], u32) -> Verdict>(
+    alloc: Global,
+    config: Config,
+    frames: Frames,
+    packets: &[PacketList],
+    chain: &mut Chain<F>,
+    wire: Wire,
+    order: u32,
+    manner: Manner,
+) -> Result<Sent, SimError>
+    requires regular { IsRegular config }
+    requires frames { AreFrames config.geometry frames.items }
+    requires lists { length packets.now ≡ config.ports }
+    requires short { All HasShortPackets packets.now }
+    requires obeys { AllObey F.Fn chain.old }
+    ensures once { IfOk result (λ sent. IsAskedOnce F.Fn config packets.now chain.old chain.new) }
+    ensures same { SamePrograms chain.old chain.new }
+    ensures obeys { AllObey F.Fn chain.new }
+    ensures pairs { IfOk result (λ sent. length sent.lists ≡ length config.pairs) }
+    ensures ended { IfOk result (λ sent. (run : Shown) × HasEndedUnder F.Fn chain.old wire manner config packets.now frames.items order run × IsSentBy run sent) }
+    ensures stalled { (round : ℕ) → result ≡ Err (SimError.Stalled round)
+        → HasStalledUnder F.Fn chain.old wire manner config packets.now frames.items order round }
+    ensures goes_on { HasAmpleRoom config → config.closing ≡ None → manner ≡ plain_manner → (round : ℕ) → result ≡ Err (SimError.Stalled round) → ⊥ }
+{
+    let (_server, sent) = run_on::<F, Unlogged>(
+        alloc, config, frames, packets, chain, wire, order, manner,
+    )?;
+    Ok(sent)
+}
+
+/// The run of `simulate` on an object with or without a log.
+#[allow(clippy::too_many_arguments)]
+fn run_on<F: Fn(&[u8], u32) -> Verdict, S: Server + Drop>(
+    alloc: Global,
+    config: Config,
+    frames: Frames,
+    packets: &[PacketList],
+    chain: &mut Chain<F>,
+    wire: Wire,
+    order: u32,
+    manner: Manner,
+) -> Result<(S, Sent), SimError>
+    requires regular { IsRegular config }
+    requires frames { AreFrames config.geometry frames.items }
+    requires lists { length packets.now ≡ config.ports }
+    requires short { All HasShortPackets packets.now }
+    requires obeys { AllObey F.Fn chain.old }
+    ensures once { IfOk result (λ ran. IsAskedOnce F.Fn config packets.now chain.old chain.new) }
+    ensures same { SamePrograms chain.old chain.new }
+    ensures obeys { AllObey F.Fn chain.new }
+    ensures pairs { IfOk result (λ ran. (length ran.1.lists ≡ length config.pairs) × ((S.seen ran.0).engine.config ≡ config)) }
+    ensures ended { IfOk result (λ ran. (run : Shown) × HasEndedUnder F.Fn chain.old wire manner config packets.now frames.items order run × IsShownBy (S.seen ran.0) ran.1 run) }
+    ensures stalled { (round : ℕ) → result ≡ Err (SimError.Stalled round)
+        → HasStalledUnder F.Fn chain.old wire manner config packets.now frames.items order round }
+    ensures goes_on { HasAmpleRoom config → config.closing ≡ None → manner ≡ plain_manner → (round : ℕ) → result ≡ Err (SimError.Stalled round) → ⊥ }
+{
     let Ok(shared) = config.copy(alloc) else {
         return Err(SimError::OutOfMemory);
     };
@@ -178,7 +244,7 @@ pub fn simulate<F: Fn(&[u8], u32) -> Verdict>(
         return Err(SimError::OutOfMemory);
     };
     let _geometry = shared.geometry();
-    run_workers(
+    run_workers::<S>(
         alloc,
         workers,
         config,
@@ -217,7 +283,8 @@ fn all_workers<'a, F: Fn(&[u8], u32) -> Verdict>(
 }
 
 /// Opens the object, and lets the workers run on it until all have ended.
-fn run_workers(
+#[allow(clippy::too_many_arguments)]
+fn run_workers<S: Server + Drop>(
     alloc: Global,
     workers: Workers<'_>,
     config: Config,
@@ -226,46 +293,46 @@ fn run_workers(
     wire: Wire,
     manner: Manner,
     order: Order,
-) -> Result<Run, SimError>
+) -> Result<(S, Sent), SimError>
     requires opened { IsOpened config frames.items }
     requires set { (s : Setting) × (s.config ≡ config) × AreSet s workers }
-    ensures pairs { IfOk result (λ run. run.pairs ≡ length config.pairs) }
+    ensures pairs { IfOk result (λ ran. (length ran.1.lists ≡ length config.pairs) × ((S.seen ran.0).engine.config ≡ config)) }
     ensures ended { (s : Setting) → s.config ≡ config → IsRegular s.config → AreSet s workers.entry
         → classes ≡ classes_of s.config → wire ≡ s.wire → manner ≡ s.manner
-        → IfOk result (HasEnded s frames.items order.number) }
+        → IfOk result (λ ran. (run : Shown) × HasEnded s frames.items order.number run × IsShownBy (S.seen ran.0) ran.1 run) }
     ensures stalled { (s : Setting) (round : ℕ) → s.config ≡ config → AreSet s workers.entry
         → result ≡ Err (SimError.Stalled round) → HasStalled s frames.items order.number round }
 {
-    let Ok(mut plain) = Plain::open(alloc, config, frames) else {
+    let Ok(mut server) = S::open(alloc, config, frames) else {
         return Err(SimError::OutOfMemory);
     };
-    let sent = run_to_end(alloc, workers, &mut plain, classes, wire, manner, order)?;
-    Ok(Run { plain, sent })
+    let sent = run_to_end(alloc, workers, &mut server, classes, wire, manner, order)?;
+    Ok((server, sent))
 }
 
 /// Makes rounds until all workers have ended, and collects what the drivers sent and their figures.
-fn run_to_end(
+fn run_to_end<S: Server>(
     alloc: Global,
     workers: Workers<'_>,
-    plain: &mut Plain,
+    server: &mut S,
     classes: u32,
     wire: Wire,
     manner: Manner,
     order: Order,
 ) -> Result<Sent, SimError>
-    requires geometry { IsGeometry plain.old.config.geometry }
-    requires ready { AreReady workers plain.old }
-    ensures lists { (s : Setting) (frames : List Frame) → AreSeated s frames [] workers.entry plain.old
-        → IfOk result (λ sent. (length sent.lists ≡ length s.config.pairs) × (plain.new.config ≡ s.config)) }
-    ensures ended { (s : Setting) (frames : List Frame) → IsRegular s.config → AreSeated s frames [] workers.entry plain.old
+    requires geometry { IsGeometry (S.seen server.old).engine.config.geometry }
+    requires ready { AreReady workers (S.seen server.old) }
+    ensures lists { (s : Setting) (frames : List Frame) → AreSeated s frames [] workers.entry (S.seen server.old)
+        → IfOk result (λ sent. (length sent.lists ≡ length s.config.pairs) × ((S.seen server.new).engine.config ≡ s.config)) }
+    ensures ended { (s : Setting) (frames : List Frame) → IsRegular s.config → AreSeated s frames [] workers.entry (S.seen server.old)
         → classes ≡ classes_of s.config → wire ≡ s.wire → manner ≡ s.manner
-        → IfOk result (λ sent. HasEnded s frames order.number (shown_by plain.new sent)) }
-    ensures stalled { (s : Setting) (frames : List Frame) (round : ℕ) → AreSeated s frames [] workers.entry plain.old
+        → IfOk result (λ sent. (run : Shown) × HasEnded s frames order.number run × IsShownBy (S.seen server.new) sent run) }
+    ensures stalled { (s : Setting) (frames : List Frame) (round : ℕ) → AreSeated s frames [] workers.entry (S.seen server.old)
         → result ≡ Err (SimError.Stalled round) → HasStalled s frames order.number round }
 {
     let mut workers = workers;
-    make_rounds(&mut workers, plain, order)?;
-    let calls = u64::from(plain.log().len());
+    make_rounds(&mut workers, server, order)?;
+    let calls = server.calls();
     let Ok(kept) = collect(alloc, workers, classes) else {
         return Err(SimError::OutOfMemory);
     };
@@ -273,21 +340,25 @@ fn run_to_end(
 }
 
 /// Makes rounds until all workers have ended, or nothing has changed for too long.
-fn make_rounds(workers: &mut Workers<'_>, plain: &mut Plain, order: Order) -> Result<(), SimError>
-    requires geometry { IsGeometry plain.old.config.geometry }
-    requires ready { AreReady workers.old plain.old }
-    ensures ended { (s : Setting) (frames : List Frame) → AreSeated s frames [] workers.old plain.old
-        → OnOk result ((count : ℕ) × (count ≤ 18446744073709551616) × HadRounds s frames order.number count workers.new plain.new × HaveEnded workers.new
+fn make_rounds<S: Server>(
+    workers: &mut Workers<'_>,
+    server: &mut S,
+    order: Order,
+) -> Result<(), SimError>
+    requires geometry { IsGeometry (S.seen server.old).engine.config.geometry }
+    requires ready { AreReady workers.old (S.seen server.old) }
+    ensures ended { (s : Setting) (frames : List Frame) → AreSeated s frames [] workers.old (S.seen server.old)
+        → OnOk result ((count : ℕ) × (count ≤ 18446744073709551616) × HadRounds s frames order.number count workers.new (S.seen server.new) × HaveEnded workers.new
         × NeverStill s frames order.number count) }
-    ensures stalled { (s : Setting) (frames : List Frame) (round : ℕ) → AreSeated s frames [] workers.old plain.old
+    ensures stalled { (s : Setting) (frames : List Frame) (round : ℕ) → AreSeated s frames [] workers.old (S.seen server.old)
         → result ≡ Err (SimError.Stalled round)
-        → (had : HadRounds s frames order.number (round + 1) workers.new plain.new) × (HaveEnded workers.new → ⊥) × (round ≤ 18446744073709551615)
+        → (had : HadRounds s frames order.number (round + 1) workers.new (S.seen server.new)) × (HaveEnded workers.new → ⊥) × (round ≤ 18446744073709551615)
         × StandStill s frames order.number 64 (round + 1) had.history × NeverStill s frames order.number round }
 {
     let mut order = order;
     let mut still = 0;
     for round in 0..u64::MAX {
-        let quiet = workers.round(plain, &mut order)?;
+        let quiet = workers.round(server, &mut order)?;
         still = still_after(still, quiet);
         if workers.have_ended() {
             return Ok(());

@@ -8,11 +8,11 @@ use Rattle.xsk_sim.proofs.Standing.{Gone}
 use Rattle.xsk_sim.proofs.simulation.make_rounds.Given as goal
 
 abbrev pub invariant-loop-round : goal.invariant-loop-round
-invariant-loop-round l = record {
-  config : l.plain.config ≡ l.initial.plain.config;
+invariant-loop-round g l = record {
+  config : (g.S.Server.seen l.server).engine.config ≡ (g.S.Server.seen l.initial.server).engine.config;
   few : l.still < 64;
-  rounds : (s : Setting) (frames : List Frame) → AreSeated s frames [] l.initial.workers l.initial.plain
-      → Gone s frames l.initial.order.number l.round l.still l.workers l.plain × (l.order.number ≡ number_at l.initial.order.number l.round)
+  rounds : (s : Setting) (frames : List Frame) → AreSeated s frames [] l.initial.workers (g.S.Server.seen l.initial.server)
+      → Gone s frames l.initial.order.number l.round l.still l.workers (g.S.Server.seen l.server) × (l.order.number ≡ number_at l.initial.order.number l.round)
       × NeverStill s frames l.initial.order.number l.round;
   going : 0 < l.round → HaveEnded l.workers → ⊥;
 }

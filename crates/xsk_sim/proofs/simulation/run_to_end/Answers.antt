@@ -1,4 +1,4 @@
-use Rattle.std.proofs.Common.{◌≡◌, ℕ, List, length, ◌+◌, ◌≤◌, Err, sym, ap, ◌∙◌, refl, rules, arith}
+use Rattle.std.proofs.Common.{◌≡◌, ℕ, List, length, ◌+◌, ◌≤◌, Err, sym, ap, ◌∙◌, rules, arith}
 use Rattle.std.specs.Prelude.{is_some}
 use Rattle.xsk_turns.specs.declared.manner.Manner.{Manner}
 use Rattle.xsk_machine.specs.Sent.{SentShown}
@@ -7,51 +7,50 @@ use Rattle.xsk_sim.specs.declared.simulation.SimError.TheVariants.{Stalled}
 use Rattle.xsk_sim.specs.Runs.{NeverStill}
 use Rattle.xsk_sim.specs.Seats.{HadRounds, HaveEnded}
 use Rattle.xsk_sim.specs.Stalls.{StandStill}
-use Rattle.xsk_sim.proofs.Ending.{ended_run, figures_number, lists_kept, log_count, stalled_run, whole_of}
+use Rattle.xsk_sim.proofs.Ending.{ended_run, figures_number, lists_kept, stalled_run, whole_of}
 use Rattle.xsk_sim.proofs.simulation.run_to_end.Goals as goal
 
 pub returns-in_err-make_rounds-clause-stalled : goal.returns-in_err-make_rounds-clause-stalled
-returns-in_err-make_rounds-clause-stalled c s frames round seated is =
+returns-in_err-make_rounds-clause-stalled g c s frames round seated is =
     let w = c.make_rounds.new.workers in
-    let engine = c.make_rounds.new.plain in
+    let object = g.S.Server.seen c.make_rounds.new.server in
     let error : c.from_residual.result ≡ Err c.in_err-make_rounds.field-0.0 = search rules in
     let same : c.in_err-make_rounds.field-0.0 ≡ Stalled round = let e = sym error ∙ is in cc in
-    let stalled : (had : HadRounds s frames c.args.order.number (round + 1) w engine) × (HaveEnded w → ⊥) × (round ≤ 18446744073709551615)
+    let stalled : (had : HadRounds s frames c.args.order.number (round + 1) w object) × (HaveEnded w → ⊥) × (round ≤ 18446744073709551615)
     × StandStill s frames c.args.order.number 64 (round + 1) had.history × NeverStill s frames c.args.order.number round =
     c.in_err-make_rounds.ensures.stalled s frames round seated (ap Err same) in
-    stalled_run s frames c.args.order.number round w engine stalled.0 stalled.1 stalled.2 stalled.3 stalled.4
+    stalled_run s frames c.args.order.number round w object stalled.0 stalled.1 stalled.2 stalled.3 stalled.4
 
 pub returns-clause-ended : goal.returns-clause-ended
-returns-clause-ended c s frames regular seated classes wire manner =
+returns-clause-ended g c s frames regular seated classes wire manner =
     let w = c.make_rounds.new.workers in
-    let engine = c.make_rounds.new.plain in
-    let ended : (count : ℕ) × (count ≤ 18446744073709551616) × HadRounds s frames c.args.order.number count w engine × HaveEnded w × NeverStill s frames c.args.order.number count =
+    let object = g.S.Server.seen c.make_rounds.new.server in
+    let ended : (count : ℕ) × (count ≤ 18446744073709551616) × HadRounds s frames c.args.order.number count w object × HaveEnded w × NeverStill s frames c.args.order.number count =
     c.in_ok-make_rounds.ensures.ended s frames seated in
-    let had : HadRounds s frames c.args.order.number ended.0 w engine = ended.2 in
-    let calls : c.from-calls.result ≡ length engine.log = c.from-calls.ensures ∙ c.len.ensures ∙ log_count c.log.result.now ∙ ap length c.log.ensures.entries in
-    let figures = ap (λ (x : SentShown). x.figures) c.into_sent.ensures ∙ ap (λ (ds : List DriverFigures). whole_of c.from-calls.result c.args.wire ds c.is_some.result) c.in-Ok.ensures.figures in
-    ended_run s frames c.args.order.number ended.0 w engine _ c.args.classes c.from-calls.result c.args.wire c.is_some.result regular had ended.1 ended.4 ended.3 refl
-    (ap (λ (x : SentShown). x.lists) c.into_sent.ensures ∙ c.in-Ok.ensures.sent) classes calls (search rules) figures wire (c.is_some.ensures ∙ ap (λ (m : Manner). is_some m.mangle) manner)
+    let had : HadRounds s frames c.args.order.number ended.0 w object = ended.2 in
+    let figures = ap (λ (x : SentShown). x.figures) c.into_sent.ensures ∙ ap (λ (ds : List DriverFigures). whole_of c.calls-calls.result c.args.wire ds c.is_some.result) c.in-Ok.ensures.figures in
+    ended_run s frames c.args.order.number ended.0 w object c.into_sent.result c.args.classes c.calls-calls.result c.args.wire c.is_some.result regular had ended.1 ended.4 ended.3
+    (ap (λ (x : SentShown). x.lists) c.into_sent.ensures ∙ c.in-Ok.ensures.sent) classes c.calls-calls.ensures (search rules) figures wire (c.is_some.ensures ∙ ap (λ (m : Manner). is_some m.mangle) manner)
 
 pub returns-clause-lists : goal.returns-clause-lists
-returns-clause-lists c s frames seated =
+returns-clause-lists g c s frames seated =
     let w = c.make_rounds.new.workers in
-    let engine = c.make_rounds.new.plain in
-    let ended : (count : ℕ) × (count ≤ 18446744073709551616) × HadRounds s frames c.args.order.number count w engine × HaveEnded w × NeverStill s frames c.args.order.number count =
+    let object = g.S.Server.seen c.make_rounds.new.server in
+    let ended : (count : ℕ) × (count ≤ 18446744073709551616) × HadRounds s frames c.args.order.number count w object × HaveEnded w × NeverStill s frames c.args.order.number count =
     c.in_ok-make_rounds.ensures.ended s frames seated in
-    let had : HadRounds s frames c.args.order.number ended.0 w engine = ended.2 in (
-      ap (length {A = List (List ℕ)}) (ap (λ (x : SentShown). x.lists) c.into_sent.ensures ∙ c.in-Ok.ensures.sent) ∙ lists_kept s frames had.history w engine had.seated,
+    let had : HadRounds s frames c.args.order.number ended.0 w object = ended.2 in (
+      ap (length {A = List (List ℕ)}) (ap (λ (x : SentShown). x.lists) c.into_sent.ensures ∙ c.in-Ok.ensures.sent) ∙ lists_kept s frames had.history w object had.seated,
       had.seated.run.config,
     )
 
 pub into_sent-requires : goal.into_sent-requires
-into_sent-requires c =
+into_sent-requires g c =
     let r = c.requires.ready in
     let s = r.setting in
     let w = c.make_rounds.new.workers in
-    let engine = c.make_rounds.new.plain in
-    let ended : (count : ℕ) × (count ≤ 18446744073709551616) × HadRounds s r.frames c.args.order.number count w engine × HaveEnded w × NeverStill s r.frames c.args.order.number count =
+    let object = g.S.Server.seen c.make_rounds.new.server in
+    let ended : (count : ℕ) × (count ≤ 18446744073709551616) × HadRounds s r.frames c.args.order.number count w object × HaveEnded w × NeverStill s r.frames c.args.order.number count =
     c.in_ok-make_rounds.ensures.ended s r.frames r.seated in
-    let had : HadRounds s r.frames c.args.order.number ended.0 w engine = ended.2 in
-    let all : length c.in-Ok.kept.figures.items ≡ length s.config.pairs = ap (length {A = DriverFigures}) c.in-Ok.ensures.figures ∙ figures_number s r.frames had.history w engine had.seated c.args.classes in
+    let had : HadRounds s r.frames c.args.order.number ended.0 w object = ended.2 in
+    let all : length c.in-Ok.kept.figures.items ≡ length s.config.pairs = ap (length {A = DriverFigures}) c.in-Ok.ensures.figures ∙ figures_number s r.frames had.history w object had.seated c.args.classes in
     omega (arith, all, c.in-Ok.kept.figures.ok.0, had.seated.run.legal.opened.config.pairs_few)

@@ -1,66 +1,11 @@
-use Rattle.std.proofs.Common.{◌≡◌, ℕ, subst, refl, sym, Err}
-use Rattle.std.specs.Prelude.{IfOk}
-use Rattle.xsk_umem.specs.Geometry.{IsGeometry}
-use Rattle.xsk_model.specs.Config.{Config, IsConfig, IsRegular}
-use Rattle.xsk_turns.specs.Workers.{Setting, AreGiven}
-use Rattle.xsk_driver.specs.Asking.{IsAnswer}
-use Rattle.xsk_machine.specs.Workers.{setting_by, IsAskedOnce}
-use Rattle.xsk_sim.proofs.Verdicts.{if_ok}
-use Rattle.xsk_sim.specs.Runs.{HasEnded, HasEndedUnder, HasStalled}
-use Rattle.xsk_sim.proofs.Stretch.{none_stands_still}
-use Rattle.xsk_sim.specs.declared.simulation.SimError.TheVariants.{Stalled}
-use Rattle.xsk_sim.proofs.simulation.simulate.Given as given
+use Rattle.xsk_sim.proofs.Ending.{logged_ended}
 use Rattle.xsk_sim.proofs.simulation.simulate.Goals as goal
-
-pub run_workers-requires-clause-opened : goal.run_workers-requires-clause-opened
-run_workers-requires-clause-opened g c = record {
-  geometry = subst (λ (k : Config). IsGeometry k.geometry) c.in-Ok.ensures c.geometry-geometry.ensures.lawful;
-  config = subst IsConfig c.config.view_is c.config.invariant;
-  lawful = c.requires.regular.lawful;
-  umem = c.requires.frames;
-}
-
-pub run_workers-requires-clause-set : goal.run_workers-requires-clause-set
-run_workers-requires-clause-set g c =
-    let set = c.in-Ok-all_workers.ensures.set in
-    (setting_by c.in-Ok.shared c.args.wire c.args.manner c.args.packets.now set.0, c.in-Ok.ensures, set.2)
-
-pub returns-clause-pairs : goal.returns-clause-pairs
-returns-clause-pairs g c = c.run_workers.ensures.pairs
-
-pub returns-clause-once : goal.returns-clause-once
-returns-clause-once g c =
-    if_ok c.run_workers.result _ _ (λ run pairs. subst (λ (k : Config). IsAskedOnce g.F.Fn k c.args.packets.now c.args.chain.now c.all_workers.new.chain) c.in-Ok.ensures c.in-Ok-all_workers.ensures.once)
-    c.run_workers.ensures.pairs
 
 pub returns-clause-ended : goal.returns-clause-ended
 returns-clause-ended g c =
-    let set = c.in-Ok-all_workers.ensures.set in
-    let s : Setting = setting_by c.in-Ok.shared c.args.wire c.args.manner c.args.packets.now set.0 in
-    if_ok c.run_workers.result (HasEnded s c.args.frames.items c.args.order) _
-    (λ run ended. subst (λ (k : Config). HasEndedUnder g.F.Fn c.args.chain.now c.args.wire c.args.manner k c.args.packets.now c.args.frames.items c.args.order run) c.in-Ok.ensures
-    (record { verdicts = set.0; asked = set.1; ended = ended }))
-    (subst (λ (number : ℕ). IfOk c.run_workers.result (HasEnded s c.args.frames.items number)) c.new.ensures
-    (c.run_workers.ensures.ended s c.in-Ok.ensures (subst IsRegular (sym c.in-Ok.ensures) c.requires.regular) set.2 c.classes.ensures refl refl))
-
--- a run that has stalled
-stalls : (g : given.Over) (c : goal.After-drop-shared-inside-4 g) (round : ℕ) → c.run_workers.result ≡ Err (Stalled round)
-    → HasStalled (setting_by c.args.config c.args.wire c.args.manner c.args.packets.now c.in-Ok-all_workers.ensures.set.0) c.args.frames.items c.args.order round
-stalls g c round is =
-    let set = c.in-Ok-all_workers.ensures.set in
-    let s : Setting = setting_by c.in-Ok.shared c.args.wire c.args.manner c.args.packets.now set.0 in
-    subst (λ (k : Config). HasStalled (setting_by k c.args.wire c.args.manner c.args.packets.now set.0) c.args.frames.items c.args.order round) c.in-Ok.ensures
-    (subst (λ (number : ℕ). HasStalled s c.args.frames.items number round) c.new.ensures (c.run_workers.ensures.stalled s round c.in-Ok.ensures set.2 is))
-
-pub returns-clause-goes_on : goal.returns-clause-goes_on
-returns-clause-goes_on g c ample closes whole round is =
-    let s : Setting = setting_by c.args.config c.args.wire c.args.manner c.args.packets.now c.in-Ok-all_workers.ensures.set.0 in
-    let stalled = stalls g c round is in
-    none_stands_still s c.args.frames.items c.args.order round (record { regular = c.requires.regular; closes = closes }) ample whole (record { past = stalled.past; still = stalled.still })
-
-pub returns-clause-stalled : goal.returns-clause-stalled
-returns-clause-stalled g c round is = record {
-  verdicts = c.in-Ok-all_workers.ensures.set.0;
-  asked = subst (λ (k : Config). AreGiven (IsAnswer g.F.Fn c.args.chain.now) (setting_by k c.args.wire c.args.manner c.args.packets.now c.in-Ok-all_workers.ensures.set.0)) c.in-Ok.ensures c.in-Ok-all_workers.ensures.set.1;
-  stalled = stalls g c round is;
-}
+    let ran = c.in_ok-plain.ensures.ended in
+    record {
+      verdicts = ran.1.verdicts;
+      asked = ran.1.asked;
+      ended = logged_ended _ c.args.frames.items c.args.order c.in_ok-plain.plain c.in_ok-plain.sent ran.0 ran.1.ended ran.2;
+    }

@@ -30,7 +30,7 @@ returns-clause-opened g c =
     (bench_opened By c.args.wire config config c.packets.result.now c.args.frames.items play refl
     c.geometry-geometry.ensures.lawful c.ports-ports.ensures.lawful (subst IsLawful (sym traffic) c.config-config.ensures.steady.regular.lawful)
     (subst (λ (k : Config). AreFrames k.geometry c.args.frames.items) (sym traffic) c.requires.frames)
-    c.in_ok-checked.ensures.config c.in_ok-checked.ensures.state c.in_ok-checked.ensures.log c.in_ok-seats.ensures.count c.in_ok-seats.ensures.seated))
+    c.in_ok-checked.ensures.config c.in_ok-checked.ensures.state c.in_ok-checked.ensures.log.0 c.in_ok-checked.ensures.log.1 c.in_ok-seats.ensures.count c.in_ok-seats.ensures.seated))
 
 pub invariant_of-result : goal.invariant_of-result
 invariant_of-result g c =
@@ -39,5 +39,5 @@ invariant_of-result g c =
     let made = bench_opened (IsAnswer g.F.Fn c.args.chain.now) c.args.wire config config c.packets.result.now c.args.frames.items _ refl
     c.geometry-geometry.ensures.lawful c.ports-ports.ensures.lawful (subst IsLawful (sym traffic) c.config-config.ensures.steady.regular.lawful)
     (subst (λ (k : Config). AreFrames k.geometry c.args.frames.items) (sym traffic) c.requires.frames)
-    c.in_ok-checked.ensures.config c.in_ok-checked.ensures.state c.in_ok-checked.ensures.log c.in_ok-seats.ensures.count c.in_ok-seats.ensures.seated in
+    c.in_ok-checked.ensures.config c.in_ok-checked.ensures.state c.in_ok-checked.ensures.log.0 c.in_ok-checked.ensures.log.1 c.in_ok-seats.ensures.count c.in_ok-seats.ensures.seated in
     record { setting = setting_with config c.args.wire c.packets.result.now made.0; frames = c.args.frames.items; history = []; played = made.2 }

@@ -1,4 +1,5 @@
-use Rattle.std.proofs.Common.{rules, length, ◌+◌, ◌≡◌, ◌++◌, ◌∷◌, [], ℕ, List, refl, ap, subst, ◌∙◌}
+use Rattle.std.proofs.Common.{rules, length, ◌+◌, ◌≤◌, ◌≡◌, ◌++◌, ◌∷◌, [], ℕ, List, refl, ap, subst, ◌∙◌, arith}
+use Rattle.xsk_umem.specs.Geometry.{IsGeometry}
 use Rattle.xsk_umem.specs.declared.batch.Item.{Item}
 use Rattle.xsk_model.specs.Asks.{joined_call, joined_reply}
 use Rattle.xsk_model.specs.Config.{Config}
@@ -7,7 +8,8 @@ use Rattle.xsk_model.specs.Entry.{own}
 use Rattle.xsk_model.specs.History.{state_after}
 use Rattle.xsk_model.specs.Object.{reply_at}
 use Rattle.xsk_model.specs.Rings.{caller_of}
-use Rattle.xsk_sim.proofs.RunSteps.{Performs}
+use Rattle.xsk_sim.specs.Server.{Serves, logged_seen}
+use Rattle.xsk_sim.proofs.Rooms.{payload_within}
 use Rattle.xsk_bench.specs.Played.{HasPlayed}
 use Rattle.xsk_bench.specs.Serving.{entry_by}
 use Rattle.xsk_bench.proofs.Rounds.{played_same}
@@ -25,14 +27,20 @@ returns-clause-served c s frames h played =
     let by : ℕ = length c.pairs.result.now + c.args.app in
     let same : by ≡ who = ap (λ (n : ℕ). n + c.args.app) (ap length (c.pairs.ensures.value ∙ ap (λ (k : Config). k.pairs) (c.config-config.ensures ∙ played.run.config))) in
     let legal : IsLegal engine.config (own by engine.log) by call = search rules in
-    let performs : Performs engine c.serve.new.self by call reply = record {
+    let geometry : IsGeometry engine.config.geometry = search (rules, c.geometry-geometry.ensures.lawful) in
+    let few : length c.why_not.new.items ≤ 32 = search (rules, c.len-count.ensures.few) in
+    let serves : Serves (logged_seen engine) (logged_seen c.serve.new.self) by call reply = record {
       reply = c.serve.ensures.reply;
       state = c.serve.ensures.state;
-      log = c.serve.ensures.log;
       config = c.serve.ensures.config;
+      calls = c.serve.ensures.calls;
+      keeps = refl;
+      log = λ kept. c.serve.ensures.log;
+      entries = omega (arith, c.serve.ensures.entries);
+      bytes = omega (arith, c.serve.ensures.bytes, payload_within engine.config c.args.ask c.why_not.new.items geometry few);
     } in
     subst (λ (items : List Item). (reply ≡ reply_at s.config (state_after s.config frames h) (joined_call c.args.ask items))
     × HasPlayed s frames (h ++ entry_by who (joined_call c.args.ask items) reply ∷ []) (record p { checked = c.serve.new.self })) c.why_not.ensures.items
     (played_on s frames h c.args.app call reply (record p { checked = engine }) _ before
     (subst (λ (w : ℕ). IsLegal engine.config (own w engine.log) w call) same legal)
-    (subst (λ (w : ℕ). Performs engine c.serve.new.self w call reply) same performs) refl)
+    (subst (λ (w : ℕ). Serves (logged_seen engine) (logged_seen c.serve.new.self) w call reply) same serves) refl)

@@ -9,7 +9,7 @@ use Rattle.xsk_sim.proofs.Stalling.{worker_notes}
 use Rattle.xsk_sim.proofs.rounds.Workers.step.Goals as goal
 
 pub returns-clause-turn : goal.returns-clause-turn
-returns-clause-turn c s frames h seated =
+returns-clause-turn g c s frames h seated =
     let who = c.args.who in
     let w = c.args.self.now in
     let v = c.step.new.self in
@@ -34,10 +34,10 @@ returns-clause-turn c s frames h seated =
     }
 
 pub step-requires-clause-can : goal.step-requires-clause-can
-step-requires-clause-can c call is =
+step-requires-clause-can k c call is =
     let g = c.requires.going in
     let who = c.args.who in
     let seat = c.index_mut.result.now in
     let here : Sits g.setting (own_in g.history) who seat.machine (joined_ask seat.ask seat.items) =
     each_at c.args.self.now.seats.items 0 who who _ seat g.seated.seats (omega arith) (omega arith) c.index_mut.ensures.value in
-    can_make g.setting g.frames g.history c.args.plain.now who (joined_ask seat.ask seat.items) call g.seated.run here.1 is
+    can_make g.setting g.frames g.history (k.S.Server.seen c.args.server.now) who (joined_ask seat.ask seat.items) call g.seated.run here.1 is
