@@ -4,7 +4,7 @@ use Rattle.xsk_io.specs.Bay.{Adds, Moment, Same}
 use Rattle.xsk_io.specs.declared.bay.Kind.{Kind}
 use Rattle.xsk_io.specs.declared.bay.Kind.TheVariants.{Open, Read, Write}
 use Rattle.xsk_io.specs.declared.bay.Stream.{Stream}
-use Rattle.xsk_io.specs.declared.bay.Stream.TheVariants.{Input, Output, Report}
+use Rattle.xsk_io.specs.declared.bay.Stream.TheVariants.{Input, Report}
 use Rattle.xsk_io.proofs.Steps.{Adds-none, Rose-earlier}
 use Rattle.xsk_cli.specs.Cause.{IsCaused, NeverFalls}
 use Rattle.xsk_cli.specs.Outcome.{Written}

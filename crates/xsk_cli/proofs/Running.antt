@@ -4,6 +4,8 @@ use Rattle.std.proofs.Common.{◌≡◌, ℕ, suc, ◌+◌, ◌*◌, ◌<◌, �
 use Rattle.std.specs.Prelude.{All, ◌++◌, Bool, if◌then◌else◌, Option, Some, is_some, not, true, ◌&&◌, ◌==◌, ◌⊎◌}
 use Rattle.std.proofs.lemmas.Bool.{and_parts, eqb-true, or_cases}
 use Rattle.std.specs.List.{concat, range_with_len}
+use Rattle.std.specs.Fn.{Shared}
+use denote.Ref.{Bor}
 use Rattle.std.proofs.lemmas.List.{length-map, get_or-map}
 use Rattle.std.proofs.lemmas.List.Elements.{recursion_from_All}
 use Rattle.xsk_pcap.specs.Capture.{IsShort}
@@ -24,19 +26,26 @@ use Rattle.xsk_turns.specs.Sending.{bouncing}
 use Rattle.xsk_turns.specs.Turns.{Judged}
 use Rattle.xsk_turns.specs.declared.manner.Manner.{Manner}
 use Rattle.xsk_turns.specs.Hands.{IsWholeRunOf}
-use Rattle.xsk_turns.specs.Workers.{IsRuled, ruled_by}
+use Rattle.xsk_turns.specs.Workers.{AreGiven, IsRuled, Setting, ruled_by}
+use Rattle.xsk_prog.specs.Chain.{rules_of}
+use Rattle.xsk_prog.specs.declared.program.XdpProgram.{XdpProgram}
 use Rattle.xsk_prog.specs.declared.rule.Rule.{Rule}
 use Rattle.xsk_prog.specs.declared.rule.Verdict.{Verdict}
 use Rattle.xsk_args.specs.declared.program.Program.{Program}
 use Rattle.xsk_turns.specs.declared.wire.Wire.{Wire}
 use Rattle.xsk_turns.specs.declared.wire.Wire.TheVariants.{Wait}
+use Rattle.xsk_driver.specs.Asking.{IsAnswer}
 use Rattle.xsk_machine.specs.Acts.{sent_of}
+use Rattle.xsk_machine.specs.Workers.{setting_by}
+use Rattle.xsk_machine.proofs.Ruling.{asked_ruled}
 use Rattle.xsk_machine.proofs.Within.{by_one}
 use Rattle.xsk_workers.specs.Forwarded.{OutcomeShown, HasForwarded}
 use Rattle.xsk_workers.specs.Hands.{SuitHands}
 use Rattle.xsk_cli.specs.Forward.{unmangled}
 use Rattle.xsk_cli.specs.Words.{suits_hands}
-use Rattle.xsk_sim.specs.Runs.{HasEnded, HasStalled}
+use Rattle.xsk_sim.specs.Runs.{HasEnded, HasEndedUnder, HasStalled, HasStalledUnder}
+use Rattle.xsk_sim.specs.declared.simulation.SimError.{SimError}
+use Rattle.xsk_sim.specs.declared.simulation.SimError.TheVariants.{Stalled as HasNoEnd, OutOfMemory as RunMemory}
 use Rattle.xsk_sim.specs.Journal.{journal_of}
 use Rattle.xsk_sim.specs.Shown.{HasShortPackets, Shown}
 use Rattle.xsk_sim.proofs.InRounds.{entries_stand_in_rounds}
@@ -61,7 +70,7 @@ use Rattle.xsk_cli.specs.Judged.{excess_of}
 use Rattle.xsk_cli.specs.declared.format.Format.{Format}
 use Rattle.xsk_stats.specs.Report.{report_text}
 use Rattle.xsk_cli.specs.Outcome.{Written, listed, setting_of, verdicts_by, frames_of, sent_on, sent_from, going_on, going_back, rules_by, report_of, told_of, AreTextsIn, AreTextsOf, NoneGoesBack, sent_on_by}
-use Rattle.xsk_cli.specs.Steps.{lists_in}
+use Rattle.xsk_cli.specs.Steps.{FailsRunning, lists_in, sim_failure}
 use Rattle.xsk_cli.proofs.Going.{bounced_goes_back, classes_are, expected_goes_on, are_exact_by, packets_there}
 use Rattle.xsk_cli.proofs.Judging.{limits_of}
 use Rattle.xsk_cli.proofs.Ports.{same_map}
@@ -351,3 +360,21 @@ ended_as layout programs wire manner order c own fs lists run is_config is_own i
     subst (λ f. HasEnded (setting_of layout programs wire manner lists) f order run) is_frames
     (subst (λ (l : List PacketList). HasEnded (ruled_by (rules_by layout.sockets programs) wire manner (regular_of layout) l) fs order run) is_own
     (subst (λ (k : Config). HasEnded (ruled_by (rules_by layout.sockets programs) wire manner k own) fs order run) is_config (ends_as_ruled (rules_by layout.sockets programs) (record { config = c; wire = wire; manner = manner; packets = own; verdicts = verdicts }) fs order run (are_exact_by layout.sockets programs) is h)))
+
+-- so is one under a chain of the programs' rules
+module _ {F : Type 0} (g : Shared F (Bor (List ℕ) × (ℕ × Unit {0})) Verdict) (chain : List (XdpProgram F)) (layout : Layout) (programs : List Program) (wire : Wire) (manner : Manner) (order : ℕ) (c : Config) (own : List PacketList) (fs : List Frame) (lists : List (List (List ℕ)))
+    (is_config : c ≡ regular_of layout) (is_own : own ≡ map listed lists) (is_frames : fs ≡ frames_of layout) (are_rules : rules_of chain ≡ rules_by layout.sockets programs) where
+  ruled : (verdicts : List (List Verdict)) → AreGiven (IsAnswer g chain) (setting_by c wire manner own verdicts) → IsRuled (rules_by layout.sockets programs) (setting_by c wire manner own verdicts)
+  ruled verdicts asked =
+      let s : Setting = setting_by c wire manner own verdicts in
+      subst (λ rules. IsRuled rules s) are_rules (asked_ruled g chain s asked)
+
+  pub ended_under : (run : Shown) → HasEndedUnder g chain wire manner c own fs order run → HasEnded (setting_of layout programs wire manner lists) (frames_of layout) order run
+  ended_under run under = ended_as layout programs wire manner order c own fs lists run is_config is_own is_frames under.verdicts (ruled under.verdicts under.asked) under.ended
+
+  -- and so one fails
+  pub failed_under : (error : SimError) → ((round : ℕ) → error ≡ HasNoEnd round → HasStalledUnder g chain wire manner c own fs order round) → FailsRunning layout programs wire manner order lists (sim_failure error)
+  failed_under (HasNoEnd round) stalled =
+      let under = stalled round refl in
+      stalled_as layout programs wire manner order c own fs lists round is_config is_own is_frames under.verdicts (ruled under.verdicts under.asked) under.stalled
+  failed_under RunMemory stalled = tt

@@ -14,6 +14,8 @@ use Rattle.xsk_pcap.specs.declared.reading.BadCapture.TheVariants.{OutOfMemory a
 use Rattle.xsk_pcapng.specs.Pcapng.{IsRefused as IsRefusedFile}
 use Rattle.xsk_pcapng.specs.declared.reading.BadPcapng.TheVariants.{OutOfMemory as NoFileCause}
 use Rattle.xsk_sim.specs.Runs.{HasStalled}
+use Rattle.xsk_sim.specs.declared.simulation.SimError.{SimError}
+use Rattle.xsk_sim.specs.declared.simulation.SimError.TheVariants.{Stalled as HasNoEnd, OutOfMemory as RunMemory}
 use Rattle.xsk_turns.specs.declared.manner.Manner.{Manner}
 use Rattle.xsk_cli.specs.Judged.{AreShort, AreCaptures, IsBadCapture, excess_of}
 use Rattle.xsk_cli.specs.Outcome.{Written, capture_of, bad, passed, stalled, illegal, IsOutcome, IsAudited, IsStalledBy, setting_of, frames_of, bad_file}
@@ -173,6 +175,11 @@ abbrev pub IsRefusal : ℕ → List ℕ → RunFailure → Type 0
 IsRefusal port bytes (Bad at cause) = (at ≡ port) × IsRefused bytes cause × (cause ≢ NoCause)
 IsRefusal port bytes NoMemory = Unit {0}
 IsRefusal port bytes failure = ⊥
+
+-- why no run was made of packets
+abbrev pub sim_failure : SimError → RunFailure
+sim_failure (HasNoEnd round) = Stalls round
+sim_failure RunMemory = NoMemory
 
 -- why a run of packets gives nothing
 abbrev pub FailsRunning : Layout → List Program → Wire → Manner → ℕ → List (List (List ℕ)) → RunFailure → Type 0

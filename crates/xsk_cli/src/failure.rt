@@ -5,6 +5,7 @@ use std::alloc::AllocError;
 use xsk_io::Stream;
 use xsk_pcap::BadCapture;
 use xsk_pcapng::BadPcapng;
+use xsk_sim::SimError;
 use xsk_umem::OutOfMemory;
 
 /// Why the inputs weren't read.
@@ -69,6 +70,20 @@ impl From<OutOfMemory> for RunFailure {
 
     fn from(_error: OutOfMemory) -> RunFailure {
         RunFailure::OutOfMemory
+    }
+}
+
+impl From<SimError> for RunFailure {
+    ghost use Rattle.std.specs.Prelude.{◌≡◌};
+    ghost use Rattle.xsk_cli.specs.Steps.{sim_failure};
+
+    ghost from_gives = { λ error failure. failure ≡ sim_failure error };
+
+    fn from(error: SimError) -> RunFailure {
+        match error {
+            SimError::Stalled { round } => RunFailure::Stalled { round },
+            SimError::OutOfMemory => RunFailure::OutOfMemory,
+        }
     }
 }
 

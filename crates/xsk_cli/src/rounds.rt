@@ -2,10 +2,10 @@
 ghost use Rattle.std.specs.Prelude.{◌≡◌, ◌++◌, [], None, All, IfErr, IfOk, if◌then◌else◌, length, map};
 ghost use Rattle.xsk_machine.specs.Acts.{HasShortPackets};
 ghost use Rattle.xsk_model.specs.Config.{IsRegular};
-ghost use Rattle.xsk_model.specs.Opening.{AreFrames};
 ghost use Rattle.xsk_sim.specs.Journal.{journal_of};
 ghost use Rattle.xsk_sim.specs.Runs.{HasEnded};
-ghost use Rattle.xsk_socket.specs.Layout.{fault_of, geometry_of, pairs_in};
+ghost use Rattle.xsk_sim.specs.Shown.{IsSentBy, Shown};
+ghost use Rattle.xsk_socket.specs.Layout.{fault_of, pairs_in};
 ghost use Rattle.xsk_socket.specs.Regular.{regular_of};
 ghost use Rattle.xsk_stats.specs.Report.{report_text};
 ghost use Rattle.xsk_io.specs.Bay.{NoneOpen};
@@ -33,11 +33,11 @@ use xsk_io::Bay;
 use xsk_machine::Sent;
 use xsk_model::Config;
 use xsk_prog::{Rule, XdpProgram};
-use xsk_sim::{Run, SimError, append_journal, simulate};
+use xsk_sim::{Run, append_journal, simulate, simulate_unlogged};
 use xsk_socket::Layout;
 use xsk_stats::report;
 use xsk_turns::{Manner, Wire};
-use xsk_umem::{Frames, OutOfMemory, PacketList};
+use xsk_umem::{OutOfMemory, PacketList};
 
 /// Texts are made by a run in rounds.
 struct InRounds;
@@ -134,7 +134,7 @@ fn run_work(alloc: Global, work: &Work, lists: Vec<PacketList>) -> Result<Made<S
     }
 }
 
-/// Runs the packets of all ports, and makes what is written. The log is given up before the outputs are made.
+/// Runs the packets of all ports, and makes what is written. What the run took is given up before the outputs are made.
 #[allow(clippy::too_many_arguments)]
 fn run_texts(
     alloc: Global,
@@ -156,22 +156,17 @@ fn run_texts(
     ensures laid { IfOk result (λ ran. CanBeLaid ran.left.lists ran.texts.outputs) }
     ensures failed { IfErr result (FailsRunning layout.now programs.now wire manner order (lists_in lists.items)) }
 {
-    let (config, frames) = set_up(alloc, layout)?;
-    let shared = config.copy(alloc)?;
-    let run = run_lists(
+    let (left, report) = run_lists(
         alloc,
         layout,
-        config,
-        frames,
         programs,
         wire,
         manner,
         order,
+        journal,
         lists.as_slice(),
     )?;
-    let report = told_text(alloc, &shared, &run, journal)?;
     let spare = spare_text(alloc, lists);
-    let left = run.into_sent();
     let outputs = sent_outputs(
         alloc,
         format,
@@ -184,60 +179,57 @@ fn run_texts(
     Ok(Made { texts, left })
 }
 
-/// The report of a run, and behind it the journal, where that was asked for.
-fn told_text(
-    alloc: Global,
-    config: &Config,
-    run: &Run,
-    journal: bool,
-) -> Result<Vec<u8>, OutOfMemory>
-    requires regular { IsRegular config.now }
-    requires drivers { length run.now.figures.drivers ≡ length config.now.pairs }
-    ensures { IfOk result (λ text. text.items ≡ report_text config.now run.now.figures ++ (if journal then journal_of run.now.pairs run.now.log else [])) }
-{
-    let mut text = report(alloc, config, run.figures())?;
-    if journal {
-        append_journal(alloc, &mut text, run)?;
-    }
-    Ok(text)
-}
-
-/// Runs the lists of all ports under the programs' rules, with the wire.
+/// Runs the lists of all ports under the programs' rules, with the wire, and tells what was sent, with the report. Where the
+/// journal was asked for, it stands behind the report, and else no log is kept of the run.
 #[allow(clippy::too_many_arguments)]
 fn run_lists(
     alloc: Global,
     layout: &Layout,
-    config: Config,
-    frames: Frames,
     programs: &ProgramList,
     wire: Wire,
     manner: Manner,
     order: u32,
+    journal: bool,
     lists: &[PacketList],
-) -> Result<Run, RunFailure>
+) -> Result<(Sent, Vec<u8>), RunFailure>
     requires accepted { fault_of layout.now ≡ None }
-    requires config { config ≡ regular_of layout.now }
-    requires regular { IsRegular config }
-    requires frames { frames.items ≡ frames_of layout.now }
-    requires known { AreFrames (geometry_of layout.now) frames.items }
     requires ports { length lists.now ≡ layout.now.ports }
     requires listed { lists.now ≡ map listed (lists_in lists.now) }
     requires short { All HasShortPackets lists.now }
-    ensures pairs { IfOk result (λ run. run.pairs ≡ pairs_in layout.now) }
-    ensures ended { IfOk result (HasEnded (setting_of layout.now programs.now wire manner (lists_in lists.now)) (frames_of layout.now) order) }
+    ensures pairs { IfOk result (λ ran. length ran.0.lists ≡ pairs_in layout.now) }
+    ensures ended { IfOk result (λ ran. (run : Shown) × HasEnded (setting_of layout.now programs.now wire manner (lists_in lists.now)) (frames_of layout.now) order run
+        × IsSentBy run ran.0 × (ran.1.items ≡ report_text (regular_of layout.now) run.figures ++ (if journal then journal_of run.pairs run.log else []))) }
     ensures failed { IfErr result (FailsRunning layout.now programs.now wire manner order (lists_in lists.now)) }
 {
+    let (config, frames) = set_up(alloc, layout)?;
+    let shared = config.copy(alloc)?;
     let mut chain = chain_of(alloc, programs.as_slice(), layout.sockets, |rule: Rule| {
         XdpProgram::attach(
             rule,
             move |packet: &[u8], queue: u32| rule.verdict(packet, queue),
         )
     })?;
-    match simulate(
-        alloc, config, frames, lists, &mut chain, wire, order, manner,
-    ) {
-        Ok(run) => Ok(run),
-        Err(SimError::Stalled { round }) => Err(RunFailure::Stalled { round }),
-        Err(SimError::OutOfMemory) => Err(RunFailure::OutOfMemory),
+    if journal {
+        let run = simulate(
+            alloc, config, frames, lists, &mut chain, wire, order, manner,
+        )?;
+        let text = told_text(alloc, &shared, &run)?;
+        return Ok((run.into_sent(), text));
     }
+    let sent = simulate_unlogged(
+        alloc, config, frames, lists, &mut chain, wire, order, manner,
+    )?;
+    let text = report(alloc, &shared, sent.figures())?;
+    Ok((sent, text))
+}
+
+/// The report of a run, and the journal behind it.
+fn told_text(alloc: Global, config: &Config, run: &Run) -> Result<Vec<u8>, OutOfMemory>
+    requires regular { IsRegular config.now }
+    requires drivers { length run.now.figures.drivers ≡ length config.now.pairs }
+    ensures { IfOk result (λ text. text.items ≡ report_text config.now run.now.figures ++ journal_of run.now.pairs run.now.log) }
+{
+    let mut text = report(alloc, config, run.figures())?;
+    append_journal(alloc, &mut text, run)?;
+    Ok(text)
 }

@@ -1,7 +1,7 @@
-use Rattle.std.proofs.Common.{rules, ◌≡◌, List, map, string_bytes, ap, codes, sym, subst, None, Some, Option}
+use Rattle.std.proofs.Common.{rules, ◌≡◌, List, map, string_bytes, ap, codes, sym, subst, None, Option}
 use Rattle.std.specs.Prelude.{option_and_then}
 use Rattle.xsk_args.specs.Words.{Text}
-use Rattle.xsk_args.specs.Meaning.{Meaning, meaning, under}
+use Rattle.xsk_args.specs.Meaning.{Meaning, meaning}
 use Rattle.xsk_cli.specs.Steps.{Comes, args_status}
 use Rattle.xsk_io.specs.Bay.{Moment}
 use Rattle.xsk_cli.specs.Streams.{status_in}

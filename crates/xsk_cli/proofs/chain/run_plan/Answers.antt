@@ -5,7 +5,7 @@ use Rattle.xsk_io.specs.Bay.{Moment}
 use Rattle.xsk_cli.specs.Ends.{ComesOf, EndsBy}
 use Rattle.xsk_cli.specs.Outcome.{Written}
 use Rattle.xsk_cli.specs.Cause.{IsCaused, NoOthers}
-use Rattle.xsk_cli.specs.Steps.{AreFor, AreMade, HaveRead, plan_in, read_status, run_status, write_status, written_in}
+use Rattle.xsk_cli.specs.Steps.{AreFor, AreMade, HaveRead, plan_in, read_status, write_status, written_in}
 use Rattle.xsk_cli.specs.Streams.{AreWritten, HasLine, IsAtOnce, IsSilent}
 use Rattle.xsk_cli.specs.Words.{most_of}
 use Rattle.xsk_cli.specs.declared.status.Status.TheVariants.{Done, OpenFault, WriteFault}

@@ -1,4 +1,4 @@
-use Rattle.std.proofs.Common.{◌≡◌, ◌≤◌, ◌∙◌, [], refl, subst, sym}
+use Rattle.std.proofs.Common.{◌≤◌, ◌∙◌, [], refl, subst, sym}
 use Rattle.xsk_io.specs.Bay.{Adds, Moment}
 use Rattle.xsk_io.specs.declared.bay.Kind.TheVariants.{Open, Write}
 use Rattle.xsk_io.specs.declared.bay.Stream.TheVariants.{Output}
