@@ -3,6 +3,7 @@ ghost use Rattle.std.specs.Prelude.{◌≡◌};
 ghost use Rattle.xsk_workers.specs.Crew.{IsSeatOn};
 
 use crate::pace::Pace;
+use crate::patience::Patience;
 use crate::runner::Rests;
 use crossbeam_utils::Backoff;
 use std::sync::Wait;
@@ -14,6 +15,7 @@ pub(crate) fn run_alone<R: Wait, W: Rests, G: Gate>(
     rt: &R,
     shared: &Shared,
     gate: &G,
+    patience: Patience,
     worker: W,
 ) -> W
     requires { IsSeatOn shared.now (W.seat worker) }
@@ -29,7 +31,7 @@ pub(crate) fn run_alone<R: Wait, W: Rests, G: Gate>(
         match worker.turn(shared) {
             Pace::Ended => break,
             Pace::Moved => backoff.reset(),
-            Pace::Waited => backoff.snooze(),
+            Pace::Waited => patience.wait(&backoff),
             Pace::Parked => worker.rest(rt, &backoff),
         }
     }

@@ -10,6 +10,7 @@ mod member;
 mod pace;
 mod pairs;
 mod parking;
+mod patience;
 mod plan;
 mod runner;
 mod running;

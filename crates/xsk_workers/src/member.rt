@@ -4,6 +4,7 @@ ghost use Rattle.std.specs.Prelude.{◌≡◌};
 use crate::alone::run_alone;
 use crate::context::Context;
 use crate::pace::Pace;
+use crate::patience::Patience;
 use crate::plan::{HandsPlan, Rest};
 use crate::runner::{Leaves, Opens, Rests, Runner, Turns};
 use crate::team::Team;
@@ -46,10 +47,10 @@ impl<A: Turns, B: Turns> Turns for Member<A, B> {
 }
 
 impl<A: Rests, B: Rests> Runner for Member<A, B> {
-    fn run<R: Wait, G: Gate>(self, rt: &R, shared: &Shared, gate: &G) -> Self {
+    fn run<R: Wait, G: Gate>(self, rt: &R, shared: &Shared, gate: &G, patience: Patience) -> Self {
         match self {
-            Member::One(worker) => Member::One(run_alone(rt, shared, gate, worker)),
-            Member::Several(team) => Member::Several(run_alone(rt, shared, gate, team)),
+            Member::One(worker) => Member::One(run_alone(rt, shared, gate, patience, worker)),
+            Member::Several(team) => Member::Several(run_alone(rt, shared, gate, patience, team)),
         }
     }
 }

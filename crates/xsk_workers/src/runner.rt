@@ -9,6 +9,7 @@ ghost use Rattle.xsk_workers.specs.Shown.{AreCounted};
 ghost use Rattle.xsk_workers.specs.declared.pace.Pace.TheVariants.{Parked, Ended};
 
 use crate::pace::Pace;
+use crate::patience::Patience;
 use crate::plan::HandsPlan;
 use crate::works::Works;
 use crossbeam_utils::Backoff;
@@ -50,8 +51,8 @@ pub(crate) trait Rests: Turns {
 
 /// The calls of one caller of a setting, to their end.
 pub(crate) trait Runner: Turns {
-    /// Makes turns, each behind the gate, until it has ended.
-    fn run<R: Wait, G: Gate>(self, rt: &R, shared: &Shared, gate: &G) -> Self
+    /// Makes turns, each behind the gate, until it has ended. So patient it is where it waits.
+    fn run<R: Wait, G: Gate>(self, rt: &R, shared: &Shared, gate: &G, patience: Patience) -> Self
         requires { IsSeatOn shared.now (Self.seat self) }
         ensures { Self.seat result ≡ Self.seat self };
 }

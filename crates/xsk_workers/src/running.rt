@@ -4,6 +4,7 @@ ghost use Rattle.xsk_workers.specs.Crew.{IsSeatOn};
 ghost use Rattle.xsk_workers.specs.declared.pace.Pace.TheVariants.{Ended};
 
 use crate::pace::Pace;
+use crate::patience::Patience;
 use crate::runner::{Opens, Turns};
 use crate::teams::share_ends;
 use crossbeam_utils::Backoff;
@@ -38,8 +39,9 @@ pub(crate) fn start<R: Threads + Wait + Sync, W: Opens, G: Gate + Sync>(
     if refused.load(Ordering::SeqCst) == u64::from(member.caller()) + 1 {
         return member;
     }
+    let patience = Patience::of_caller(rt, shared, member.caller());
     let member = run_hands(rt, shared, gate, member);
-    member.run(rt, shared, gate)
+    member.run(rt, shared, gate, patience)
 }
 
 /// Has the hands of a member share its ends until all have ended, where it has several.
