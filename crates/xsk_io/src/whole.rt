@@ -13,9 +13,9 @@ use std::fmt;
 /// How many bytes one read asks for.
 const PIECE: usize = 65_536;
 
-/// How many bytes room is made for at first. What isn't used takes addresses and no pages, and a text that needn't grow is in as few
-/// pages as the system gives.
-const ROOM: usize = 33_554_432;
+/// How many bytes room is made for at first. What isn't used takes addresses and no pages, and is given back behind the last read, so
+/// that what comes next stands on the same pages.
+const ROOM: usize = 4_194_304;
 
 /// Why an input wasn't read whole.
 #[derive(Clone, Copy, Debug, PartialEq, Eq)]
@@ -89,6 +89,7 @@ pub fn read_whole<B: Bay>(
     while bytes.len() <= limit {
         let count = bay.read(stream, piece.as_mut_slice())?;
         if count == 0 {
+            bytes.shrink_to_fit();
             return Ok(bytes);
         }
         bytes.extend_from_slice(&piece[..count])?;

@@ -3,9 +3,8 @@ ghost use Rattle.std.specs.Prelude.{◌≡◌};
 ghost use Rattle.xsk_workers.specs.Crew.{IsSeatOn};
 
 use crate::pace::Pace;
-use crate::patience::Patience;
+use crate::patience::{Patience, Waiting};
 use crate::runner::Rests;
-use crossbeam_utils::Backoff;
 use std::sync::Wait;
 use xsk_gate::Gate;
 use xsk_table::Shared;
@@ -23,16 +22,16 @@ pub(crate) fn run_alone<R: Wait, W: Rests, G: Gate>(
 {
     let mut worker = worker;
     let number = worker.caller();
-    let backoff = Backoff::new();
+    let mut waiting = Waiting::new(patience);
     let mut turn = 0u64;
     for _ in rt.forever() {
         gate.enter(number, turn);
         turn = turn.saturating_add(1);
         match worker.turn(shared) {
             Pace::Ended => break,
-            Pace::Moved => backoff.reset(),
-            Pace::Waited => patience.wait(&backoff),
-            Pace::Parked => worker.rest(rt, &backoff),
+            Pace::Moved => waiting.end(),
+            Pace::Waited => waiting.wait(),
+            Pace::Parked => worker.rest(rt, waiting.backoff()),
         }
     }
     worker

@@ -8,7 +8,7 @@ use xsk_table::Shared;
 /// How often a patient application spins, which takes some 20 microseconds.
 const SPINS: u32 = 512;
 
-/// How long a worker waits behind a turn that moved nothing. What an application finds then is more at once, and it takes lines
+/// How long a worker waits behind turns that moved nothing. What an application finds then is more at once, and it takes lines
 /// from the processors of the drivers less often.
 #[derive(Clone, Copy)]
 pub(crate) enum Patience {
@@ -35,8 +35,17 @@ impl Patience {
         }
     }
 
+    /// Behind how many turns that moved nothing it waits: one, and a driver behind three, as its look at the map and its peeks
+    /// of FILL and TX come between the calls by which it moves packets.
+    fn turns(self) -> u32 {
+        match self {
+            Patience::Short => 3,
+            Patience::Yielding | Patience::Long => 1,
+        }
+    }
+
     /// Waits.
-    pub(crate) fn wait(self, backoff: &Backoff) {
+    fn wait(self, backoff: &Backoff) {
         match self {
             Patience::Short => {}
             Patience::Yielding => thread::yield_now(),
@@ -46,6 +55,46 @@ impl Patience {
             }
         }
         backoff.snooze();
+    }
+}
+
+/// The waits of a worker.
+#[derive(Drop)]
+pub(crate) struct Waiting {
+    patience: Patience,
+    backoff: Backoff,
+    /// How many turns in a row moved nothing since it waited last.
+    idle: u32,
+}
+
+impl Waiting {
+    /// It hasn't waited yet.
+    pub(crate) fn new(patience: Patience) -> Waiting {
+        Waiting {
+            patience,
+            backoff: Backoff::new(),
+            idle: 0,
+        }
+    }
+
+    /// Waits behind a turn that moved nothing, where there were enough of them.
+    pub(crate) fn wait(&mut self) {
+        self.idle = self.idle.saturating_add(1);
+        if self.idle >= self.patience.turns() {
+            self.idle = 0;
+            self.patience.wait(&self.backoff);
+        }
+    }
+
+    /// Begins anew behind a turn that moved something.
+    pub(crate) fn end(&mut self) {
+        self.idle = 0;
+        self.backoff.reset();
+    }
+
+    /// How far it has backed off.
+    pub(crate) fn backoff(&self) -> &Backoff {
+        &self.backoff
     }
 }
 
