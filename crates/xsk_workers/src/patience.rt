@@ -5,7 +5,7 @@ use std::thread::Threads;
 use std::{hint, thread};
 use xsk_table::Shared;
 
-/// How often a patient application spins, which takes some 20 microseconds.
+/// How often a patient application spins: some 4 microseconds, and up to 20 on a processor that pauses for longer.
 const SPINS: u32 = 512;
 
 /// How long a worker waits behind turns that moved nothing. What an application finds then is more at once, and it takes lines
