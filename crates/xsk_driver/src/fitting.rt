@@ -15,7 +15,7 @@ impl<'a> Machine<'a> {
     ghost use Rattle.xsk_driver.specs.Stands.{kept_in, noted_in, seat_in};
     ghost use Rattle.xsk_driver.specs.Bouncing.{bouncing_from};
 
-    /// Makes the room to send that for so many packets and bytes, and beside them for those of its own packets that are to bounce.
+    /// Lowers the room to send to that for so many packets and bytes, and beside them for those of its own packets that are to bounce.
     pub(crate) fn fit(&mut self, alloc: Global, packets: u32, bytes: u32)
         requires unsent { Sends (sent_in self.old) [] }
         requires packets { packets + length (bouncing (kept_in self.old).coming) ≤ self.old.sending.most_packets }
