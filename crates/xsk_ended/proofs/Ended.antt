@@ -1,9 +1,11 @@
 -- What whole runs come to, whether or not a socket is closed: the laws, proved.
-use Rattle.std.proofs.Common.{ℕ, ◌<◌, List, ◌++◌, subst, arith}
+use Rattle.std.proofs.Common.{ℕ, ◌<◌, List, ◌++◌, length, subst, arith}
+use Rattle.std.specs.List.{concat}
 use Rattle.xsk_umem.specs.Frame.{Frame}
 use Rattle.xsk_umem.specs.PacketList.{PacketList}
 use Rattle.xsk_model.specs.Config.{Config, classes_of}
 use Rattle.xsk_model.specs.Entry.{Told, Entry, own}
+use Rattle.xsk_model.specs.Sent.{all_sent}
 use Rattle.xsk_model.specs.Steering.{paired_port, driver_on, socket_on}
 use Rattle.xsk_model.proofs.Seats.{IsAt, is_at}
 use Rattle.xsk_prog.specs.declared.rule.Verdict.{Verdict}
@@ -15,13 +17,14 @@ use Rattle.xsk_turns.specs.declared.manner.Manner.{Manner}
 use Rattle.xsk_turns.specs.declared.wire.Wire.{Wire}
 use Rattle.xsk_turns.proofs.Hands.{whole_run_of}
 use Rattle.xsk_turns.proofs.ScriptLemmas.{whole_run}
-use Rattle.xsk_laws.specs.Expected.{received_judged}
+use Rattle.xsk_laws.specs.Expected.{received, received_judged, bounced_on}
 use Rattle.xsk_laws.specs.Laws.{AreEndedRunsBy}
-use Rattle.xsk_laws.proofs.Altered.{IsMeasured}
+use Rattle.xsk_laws.proofs.Altered.{IsMeasured, counts, sizes}
 use Rattle.xsk_laws.proofs.Joined.{input_is}
-use Rattle.xsk_laws.proofs.Within.{IsNoMore, no_more, all_bounced, paired, all_within}
+use Rattle.xsk_laws.proofs.Within.{IsNoMore, no_more, all_bounced, all_sent_total, paired, all_within}
+use Rattle.xsk_laws.proofs.Totals.{total-one, total-bytes}
 use Rattle.xsk_laws.proofs.Woken.{no_hand_loses_wakes}
-use Rattle.xsk_ended.specs.Laws.{EndedBouncedAsSaid, EndedIsWithin, EndedLoseNoWakes}
+use Rattle.xsk_ended.specs.Laws.{EndedBouncedAsSaid, EndedIsWithin, EndedLeavesWithin, EndedLoseNoWakes}
 use Rattle.xsk_ended.proofs.Apart.{disposed_apart, leaving_within}
 use Rattle.xsk_ended.proofs.Lanes.{sent_fewer}
 
@@ -57,6 +60,17 @@ ended_is_within hands manner wire c lists verdicts frames h p q run port queue =
     all_within hands manner wire c lists verdicts frames h p q run port queue
     (within hands manner wire c lists verdicts frames h p q run port queue)
     (within hands manner wire c lists verdicts frames h (paired_port p) q run (paired hands manner wire c lists verdicts frames h p q run port queue) queue)
+
+pub ended_leaves_within : EndedLeavesWithin
+ended_leaves_within hands manner wire c lists verdicts frames h p q run port queue =
+    let most = within hands manner wire c lists verdicts frames h p q run port queue in
+    let both = all_sent_total hands manner wire c lists verdicts frames h p q run port queue in
+    let bounced = bounced_on c lists verdicts p q in
+    let sent_here = all_sent c bounced h (driver_on c p q) in
+    let others = received c lists (paired_port p) q in (
+      omega (arith, both (λ _. 1), most (λ _. 1) counts, total-one sent_here, total-one bounced, total-one others),
+      omega (arith, both (λ (x : List ℕ). length x), most (λ (x : List ℕ). length x) sizes, total-bytes sent_here, total-bytes bounced, total-bytes others),
+    )
 
 -- ---- wakes
 

@@ -1,4 +1,5 @@
--- No driver sends more than its port and the paired port received on its queue, whether or not a socket is closed.
+-- No driver sends more than what is to bounce of what its port received on its queue, and what the paired port received there, whether
+-- or not a socket is closed.
 use Rattle.std.proofs.Common.{◌≡◌, ℕ, ◌+◌, ◌*◌, ◌/◌, ◌<◌, List, [], length, length-append, refl, sym, ap, subst, ◌∙◌, arith}
 use Rattle.std.specs.List.{concat, slice_index_or}
 use Rattle.std.proofs.lemmas.List.Folds.{concat-append}
@@ -18,7 +19,7 @@ use Rattle.xsk_turns.specs.Verdicts.{judged}
 use Rattle.xsk_turns.specs.Workers.{Setting, IsWholeRun}
 use Rattle.xsk_machine.proofs.Acts.{IsWithin}
 use Rattle.xsk_machine.proofs.Within.{AreWithin, each_within, by_one}
-use Rattle.xsk_ended.proofs.Ended.{ended_is_within}
+use Rattle.xsk_ended.proofs.Ended.{ended_leaves_within}
 
 -- by any number of hands
 module _ (hands : ℕ) (s : Setting) (frames : List Frame) (h : List Entry) (regular : IsRegular s.config) (legal : IsHistory s.config frames h)
@@ -34,7 +35,7 @@ module _ (hands : ℕ) (s : Setting) (frames : List Frame) (h : List Entry) (reg
   pub are_within_by : AreWithin s h
   are_within_by =
       each_within s frames h regular legal
-      (λ p q port queue. ended_is_within hands s.manner s.wire s.config s.packets s.verdicts frames h p q ended_runs_by port queue)
+      (λ p q port queue. ended_leaves_within hands s.manner s.wire s.config s.packets s.verdicts frames h p q ended_runs_by port queue)
 
 -- and by one
 module _ (s : Setting) (frames : List Frame) (h : List Entry) (regular : IsRegular s.config) (legal : IsHistory s.config frames h)

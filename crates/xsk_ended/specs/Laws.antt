@@ -36,6 +36,15 @@ EndedIsWithin = (hands : ℕ) (manner : Manner) (wire : Wire) (c : Config) (list
     + length (concat (all_sent c (bounced_on c lists verdicts (paired_port port) queue) h (driver_on c (paired_port port) queue)))
     ≤ length (concat (received c lists port queue)) + length (concat (received c lists (paired_port port) queue)))
 
+-- all that a driver sent is no more than what is to bounce of what its port received there and what the paired port received
+abbrev pub EndedLeavesWithin : Type 0
+EndedLeavesWithin = (hands : ℕ) (manner : Manner) (wire : Wire) (c : Config) (lists : List PacketList) (verdicts : List (List Verdict)) (frames : List Frame) (h : List Entry) (port queue : ℕ)
+    → AreEndedRunsBy hands manner wire c lists verdicts frames h → port < c.ports → queue < c.queues
+    → (length (all_sent c (bounced_on c lists verdicts port queue) h (driver_on c port queue))
+    ≤ length (bounced_on c lists verdicts port queue) + length (received c lists (paired_port port) queue))
+    × (length (concat (all_sent c (bounced_on c lists verdicts port queue) h (driver_on c port queue)))
+    ≤ length (concat (bounced_on c lists verdicts port queue)) + length (concat (received c lists (paired_port port) queue)))
+
 -- after each prefix of a history in which all workers have run to their ends no wake is lost
 abbrev pub EndedLoseNoWakes : Type 0
 EndedLoseNoWakes = (hands : ℕ) (s : Setting) (frames : List Frame) (h more : List Entry) (d : ℕ) → IsRegular s.config → IsHistory s.config frames (h ++ more)

@@ -1,12 +1,18 @@
 //! The laws, each the contract of a function that does nothing. They are stated in `specs/Laws.antt` and `specs/Until.antt`.
 
-ghost use Rattle.xsk_ended.specs.Laws.{EndedIsWithin, EndedBouncedAsSaid, EndedLoseNoWakes};
+ghost use Rattle.xsk_ended.specs.Laws.{EndedIsWithin, EndedLeavesWithin, EndedBouncedAsSaid, EndedLoseNoWakes};
 ghost use Rattle.xsk_ended.specs.Until.{EndedAreForwarded, EndedAreExpected, AllAreForwarded, AllAreExpected};
 
 /// All that the drivers of two paired ports sent on a queue is no more than what both ports received there, in packets and in bytes,
 /// whatever applications change and whatever socket is closed.
 pub fn ended_is_within()
     ensures { EndedIsWithin }
+{}
+
+/// All that a driver sent is no more, in packets and in bytes, than what is to bounce of what its port received and what the paired port
+/// received, whatever applications change and whatever socket is closed.
+pub fn ended_leaves_within()
+    ensures { EndedLeavesWithin }
 {}
 
 /// The packets that a driver bounced are exactly those of its own port and queue that are to bounce, each once and in order.

@@ -44,8 +44,8 @@ room_stays s who old new room same = record { packets = same.0 ∙ room.packets;
 
 -- packets are no more than what can leave by a pair's port on its queue
 pub record IsWithin (s : Setting) (who : ℕ) (packets : List (List ℕ)) : Type 0 where
-  pub count : length packets ≤ length (leaving s.config s.packets who)
-  pub bytes : length (concat packets) ≤ length (concat (leaving s.config s.packets who))
+  pub count : length packets ≤ length (leaving s who)
+  pub bytes : length (concat packets) ≤ length (concat (leaving s who))
 
 is_false : (b : Bool) → (IsTrue b → ⊥) → b ≡ false
 is_false true h = absurd (h refl)

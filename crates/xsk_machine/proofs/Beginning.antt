@@ -1,5 +1,5 @@
 -- New workers of a setting.
-use Rattle.std.proofs.Common.{◌≡◌, ℕ, ◌+◌, ◌<◌, ◌≤◌, ◌⊎◌, inl, inr, All, List, [], ◌++◌, Option, None, Some, length, length-append, sym, subst, ap, ◌∙◌, ⊎_elim, arith}
+use Rattle.std.proofs.Common.{◌≡◌, ℕ, ◌+◌, ◌<◌, ◌≤◌, ◌⊎◌, inl, inr, All, List, [], ◌++◌, Option, None, Some, map, length, length-append, sym, subst, ap, ◌∙◌, ⊎_elim, arith}
 use Rattle.std.proofs.lemmas.List.{get_or-map, get_or_default, length-map}
 use Rattle.std.proofs.lemmas.Nat.{div_below}
 use Rattle.std.proofs.lemmas.List.Folds.{concat-append}
@@ -13,7 +13,9 @@ use Rattle.xsk_model.specs.Steering.{paired_port, driver_on}
 use Rattle.xsk_model.proofs.Seats.{is_at}
 use Rattle.xsk_turns.proofs.Places.{port_within, queue_known}
 use Rattle.xsk_driver.specs.Stands.{packet_at}
-use Rattle.xsk_driver.specs.Asking.{packets_by}
+use Rattle.xsk_driver.specs.Asking.{packets_by, verdicts_in}
+use Rattle.xsk_driver.specs.Sent.{Sends}
+use Rattle.xsk_driver.proofs.Bouncing.{bouncing_few, bouncing_bytes}
 use Rattle.xsk_driver.proofs.Numbers.{numbers_known, packets_by_number}
 use Rattle.xsk_laws.proofs.Places.{are_paired}
 use Rattle.xsk_turns.specs.Inputs.{numbers_from, numbers_of, inputs_of, packets_of_port, packets_of_queue}
@@ -22,11 +24,16 @@ use Rattle.xsk_driver.specs.Runs.{IsNew as IsNewDriver}
 use Rattle.xsk_app.specs.Shown.{Shown as AppShown}
 use Rattle.xsk_app.specs.Runs.{IsNew as IsNewApp}
 use Rattle.xsk_prog.specs.declared.rule.Verdict.{Verdict}
-use Rattle.xsk_turns.specs.Verdicts.{judged}
-use Rattle.xsk_turns.specs.Workers.{Setting}
+use Rattle.xsk_turns.specs.Sending.{bouncing}
+use Rattle.xsk_turns.specs.Turns.{Judged}
+use Rattle.xsk_turns.specs.Verdicts.{judged, EachHas}
+use Rattle.xsk_turns.specs.Workers.{Setting, input_of, packets_to}
+use Rattle.xsk_turns.specs.declared.wire.Wire.{Wire}
+use Rattle.xsk_turns.proofs.Verdicts.{bytes-judged}
 use Rattle.xsk_turns.specs.declared.manner.Manner.{Manner}
 use Rattle.xsk_laws.specs.Expected.{received}
-use Rattle.xsk_machine.specs.Acts.{HasRoomToSend, IsDriver, IsApp}
+use Rattle.xsk_machine.specs.Acts.{HasRoomToSend, IsDriver, IsApp, received_there}
+use Rattle.xsk_machine.specs.Amounts.{IsAmountOf}
 use Rattle.xsk_machine.specs.declared.inputs.Amount.{Amount}
 
 -- the inputs of a pair's driver are the numbers of its packets
@@ -93,6 +100,14 @@ pub list_at : (lists : List PacketList) (port : ℕ) (list : PacketList) → lis
 list_at lists port list is below =
     ap (λ (l : PacketList). l.packets) (is ∙ get_or_default lists port list (record { packets = []; gaps = None; spare_packets = 0; spare_bytes = 0 }) below)
 
+-- that of a pair's port, as it was looked up
+pub list_found : (c : Config) (lists : List PacketList) (pairs : List PairInfo) (pair : ℕ) (list : PacketList) → IsRegular c → IsConfig c → pairs ≡ c.pairs → length lists ≡ c.ports → pair < length c.pairs
+    → list ≡ slice_index_or lists (pair_at pairs pair).port list → list.packets ≡ packets_of_port lists (pair_at c.pairs pair).port
+list_found c lists pairs pair list regular is same counted known got =
+    let below : pair < length pairs = omega (arith, known, ap (length {A = PairInfo}) same) in
+    let ports = ports_known c pairs (length lists) pair regular is same counted below in
+    list_at lists (pair_at pairs pair).port list got ports.0 ∙ ap (λ (ps : List PairInfo). packets_of_port lists (pair_at ps pair).port) same
+
 -- what was looked up of a pair, and of the paired port's driver
 pub own_found : (c : Config) (lists : List PacketList) (pair : ℕ) (inputs : List (List ℕ)) (pairs : List PairInfo) (list : PacketList) → IsConfig c → IsRegular c
     → inputs ≡ inputs_of c lists → pair < length c.pairs → length lists ≡ c.ports → pairs ≡ c.pairs → list ≡ slice_index_or lists (pair_at pairs pair).port list
@@ -151,6 +166,49 @@ module _ (most : ℕ) (list other : PacketList) (mine others : List (List ℕ)) 
     sum_of a b None first second h =
         ⊎_elim (λ (many : most ≤ a.packets + b.packets). inl (omega (arith, many, first.0, second.0, both))) (λ (many : most ≤ a.bytes + b.bytes). inr (omega (arith, many, first.1, second.1, sizes))) h
     sum_of a b (Some sum) first second h = (omega (arith, h.0, first.0, second.0, both), omega (arith, h.1, first.1, second.1, sizes))
+
+-- ---- the room to send
+
+-- of packets with their verdicts no more are to bounce than there are
+pub bounces_within : (P : List ℕ → Verdict → Type 0) (packets : List (List ℕ)) (verdicts : List Verdict) → EachHas P packets verdicts
+    → (length (bouncing (judged packets verdicts)) ≤ length packets) × (length (concat (bouncing (judged packets verdicts))) ≤ length (concat packets))
+bounces_within P packets verdicts each =
+    let input : List Judged = judged packets verdicts in
+    let same : map (λ (x : Judged). x.bytes) input ≡ packets = bytes-judged P packets verdicts each in
+    (omega (arith, bouncing_few input, length-map input (λ (x : Judged). x.bytes), ap length same), omega (arith, bouncing_bytes input, ap (λ (ps : List (List ℕ)). length (concat ps)) same))
+
+-- the room for others and for what is to bounce is within that for all
+pub room_fits : (mine others bounced : List (List ℕ)) (both there : Amount) → IsAmountOf (mine ++ others) both → IsAmountOf others there
+    → (length bounced ≤ length mine) × (length (concat bounced) ≤ length (concat mine))
+    → (there.packets + length bounced ≤ both.packets) × (there.bytes + length (concat bounced) ≤ both.bytes)
+room_fits mine others bounced both there all some few = (
+  omega (arith, all.0, some.0, few.0, length-append mine others),
+  omega (arith, all.1, some.1, few.1, ap length (concat-append mine others), length-append (concat mine) (concat others)),
+)
+
+-- a driver whose room is that has room to send all that can leave
+pub room_to_send : (s : Setting) (pair : ℕ) (list : List (List ℕ)) (verdicts : List Verdict) (coming : List Judged) (there : Amount) (d : DriverShown)
+    → coming ≡ judged (packets_of_queue s.config.queues (pair_at s.config.pairs pair).queue list) verdicts
+    → list ≡ packets_of_port s.packets (pair_at s.config.pairs pair).port → verdicts ≡ slice_index_or s.verdicts pair []
+    → IsAmountOf (received_there s.config s.packets pair) there
+    → d.sent.most_packets ≡ there.packets + length (bouncing coming) → d.sent.most_bytes ≡ there.bytes + length (concat (bouncing coming)) → HasRoomToSend s pair d
+room_to_send s pair list verdicts coming there d is at given amount packets bytes =
+    let queue : ℕ = (pair_at s.config.pairs pair).queue in
+    let others = received_there s.config s.packets pair in
+    let bounced = bouncing (input_of s pair) in
+    let same : bouncing coming ≡ bounced =
+    ap bouncing (is ∙ ap (λ (l : List (List ℕ)). judged (packets_of_queue s.config.queues queue l) verdicts) at ∙ ap (judged (packets_to s.config s.packets (pair_at s.config.pairs pair))) given) in
+    record {
+      packets = omega (arith, packets, amount.0, ap length same, length-append bounced others);
+      bytes = omega (arith, bytes, amount.1, ap (λ (ps : List (List ℕ)). length (concat ps)) same, ap length (concat-append bounced others), length-append (concat bounced) (concat others));
+    }
+
+-- a new driver with another room is new
+pub new_with_room : (wire : Wire) (c : Config) (pair : ℕ) (packets : List (List ℕ)) (old new : DriverShown) → IsNewDriver wire c pair (judged packets (verdicts_in old.kept)) old
+    → new.seat ≡ old.seat → new.wait ≡ old.wait → new.kept ≡ old.kept → Sends new.sent [] → IsNewDriver wire c pair (judged packets (verdicts_in new.kept)) new
+new_with_room wire c pair packets old new is seat wait kept sent =
+    subst (λ (vs : List Verdict). IsNewDriver wire c pair (judged packets vs) new) (sym (ap verdicts_in kept))
+    (record { one = is.one; few = is.few; seat = seat ∙ is.seat; wait = wait ∙ is.wait; kept = kept ∙ is.kept; sent = sent })
 
 pub new_driver : (s : Setting) (pair : ℕ) (list : List (List ℕ)) (verdicts : List Verdict) (d : DriverShown) → pair < length s.config.pairs → HasRoomToSend s pair d
     → list ≡ packets_of_port s.packets (pair_at s.config.pairs pair).port

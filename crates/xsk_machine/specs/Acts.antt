@@ -31,10 +31,18 @@ HasSentGaps list = list.gaps ≡ Some sent_gaps
 abbrev pub packets_in : PacketList → List (List ℕ)
 packets_in list = list.packets
 
--- what can leave by a pair's port on the pair's queue: what came there to the port itself, and what came to the paired port
-abbrev pub leaving : Config → List PacketList → ℕ → List (List ℕ)
-leaving c lists who =
-    received c lists (pair_at c.pairs who).port (pair_at c.pairs who).queue ++ received c lists (paired_port (pair_at c.pairs who).port) (pair_at c.pairs who).queue
+-- what came to the port that is paired with a pair's, on the pair's queue
+abbrev pub received_there : Config → List PacketList → ℕ → List (List ℕ)
+received_there c lists who = received c lists (paired_port (pair_at c.pairs who).port) (pair_at c.pairs who).queue
+
+-- and with what came there to the port itself
+abbrev pub received_by_both : Config → List PacketList → ℕ → List (List ℕ)
+received_by_both c lists who = received c lists (pair_at c.pairs who).port (pair_at c.pairs who).queue ++ received_there c lists who
+
+-- what can leave by a pair's port on the pair's queue: what is to bounce of what came there to the port itself (XDP_TX), and what came
+-- to the paired port
+abbrev pub leaving : Setting → ℕ → List (List ℕ)
+leaving s who = bouncing (input_of s who) ++ received_there s.config s.packets who
 
 -- all that the driver of a pair sent by its own calls and replies, and in a history: what it completed, and what it bounced of its
 -- packets
@@ -46,8 +54,8 @@ sent_of s h who = all_sent s.config (bouncing (input_of s who)) h who
 
 -- a driver has room to send all that can leave
 pub record HasRoomToSend (s : Setting) (who : ℕ) (d : DriverShown) : Type 0 where
-  pub packets : d.sent.most_packets ≡ length (leaving s.config s.packets who)
-  pub bytes : d.sent.most_bytes ≡ length (concat (leaving s.config s.packets who))
+  pub packets : d.sent.most_packets ≡ length (leaving s who)
+  pub bytes : d.sent.most_bytes ≡ length (concat (leaving s who))
 
 -- the new driver of a pair
 pub record IsDriver (s : Setting) (who : ℕ) (d : DriverShown) : Type 0 where

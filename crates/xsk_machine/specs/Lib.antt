@@ -1,4 +1,5 @@
 pub mod Acts
+pub mod Amounts
 pub mod Figured
 pub mod Figures
 pub mod Sent

@@ -9,7 +9,8 @@ ghost use Rattle.xsk_turns.specs.Inputs.{inputs_of};
 ghost use Rattle.xsk_turns.specs.Verdicts.{EachHas, IsGiven};
 ghost use Rattle.xsk_turns.specs.Workers.{packets_to, AreGiven};
 ghost use Rattle.xsk_driver.specs.Asking.{AreAsked, IsAnswer, verdicts_in};
-ghost use Rattle.xsk_machine.specs.Acts.{IsDriver, HasShortPackets, leaving};
+ghost use Rattle.xsk_machine.specs.Acts.{IsDriver, HasShortPackets, received_by_both, received_there};
+ghost use Rattle.xsk_machine.specs.Amounts.{IsAmountOf};
 ghost use Rattle.xsk_machine.specs.Workers.{AreNew, IsAskedOnce, kept_in, questions_to, setting_by};
 ghost use Rattle.xsk_turns.specs.declared.manner.Manner.{Manner as AManner};
 
@@ -21,26 +22,37 @@ use xsk_model::steering::{driver_on, paired_port};
 use xsk_prog::{Chain, Verdict};
 use xsk_umem::{OutOfMemory, PacketList};
 
-/// The packets that can leave by a pair's port on its queue, those that came there and those that came to the paired port, if
-/// both they and their bytes are fewer than 2^32.
-fn leaving_by(config: &Config, packets: &[PacketList], inputs: &Inputs, pair: u32) -> Option<Amount>
+/// The packets that came to a pair's port on its queue and to the paired port, and of them those that came to the paired port.
+struct Arrivals {
+    by_both: Amount,
+    there: Amount,
+}
+
+/// The packets that came to a pair's port on its queue and to the paired port, if both they and their bytes are fewer than 2^32.
+fn arrivals_at(
+    config: &Config,
+    packets: &[PacketList],
+    inputs: &Inputs,
+    pair: u32,
+) -> Option<Arrivals>
     requires regular { IsRegular config.now }
     requires lists { length packets.now ≡ config.now.ports }
     requires inputs { inputs.now ≡ inputs_of config.now packets.now }
     requires pair { pair < length config.now.pairs }
-    ensures { MatchOption result ((2 ^ 32 ≤ length (leaving config.now packets.now pair)) ⊎ (2 ^ 32 ≤ length (concat (leaving config.now packets.now pair))))
-        (λ amount. (amount.packets ≡ length (leaving config.now packets.now pair)) × (amount.bytes ≡ length (concat (leaving config.now packets.now pair)))) }
+    ensures { MatchOption result ((2 ^ 32 ≤ length (received_by_both config.now packets.now pair)) ⊎ (2 ^ 32 ≤ length (concat (received_by_both config.now packets.now pair))))
+        (λ arrivals. IsAmountOf (received_by_both config.now packets.now pair) arrivals.by_both × IsAmountOf (received_there config.now packets.now pair) arrivals.there) }
 {
     let info = config.pairs()[pair as usize];
     let own = inputs.amount_of(pair, &packets[info.port as usize])?;
     let port = paired_port(info.port);
     let driver = driver_on(config, port, info.queue);
-    let other = inputs.amount_of(driver, &packets[port as usize])?;
-    own.plus(other)
+    let there = inputs.amount_of(driver, &packets[port as usize])?;
+    let by_both = own.plus(there)?;
+    Some(Arrivals { by_both, there })
 }
 
-/// The driver of a pair with a wire, and with room to send all packets that its port and the paired port received on its queue.
-/// There is one list of packets for each port, none of which has more than 262,144 bytes, and the inputs are those of these lists.
+/// The driver of a pair with a wire, and with room to send all packets that the paired port received on its queue, and those of its
+/// own that bounce (XDP_TX). There is one list of packets for each port, none of which has more than 262,144 bytes, and the inputs are those of these lists.
 /// The chain is asked once for each of the driver's packets that has an Ethernet header, and nothing where memory can't be had.
 pub fn driver_for<'a, F: Fn(&[u8], u32) -> Verdict>(
     alloc: Global,
@@ -68,10 +80,12 @@ pub fn driver_for<'a, F: Fn(&[u8], u32) -> Verdict>(
 {
     let info = config.pairs()[pair as usize];
     let list = &packets[info.port as usize];
-    let Some(room) = leaving_by(config, packets, inputs, pair) else {
+    let Some(arrivals) = arrivals_at(config, packets, inputs, pair) else {
         return Err(OutOfMemory);
     };
-    let driver = Driver::new(
+    let Arrivals { by_both, there } = arrivals;
+    // What bounces is known once the chain was asked, for which all memory must be there: so it is taken for all.
+    let mut driver = Driver::new(
         alloc,
         config,
         pair,
@@ -79,9 +93,10 @@ pub fn driver_for<'a, F: Fn(&[u8], u32) -> Verdict>(
         inputs.of_pair(pair),
         chain,
         wire,
-        room.packets,
-        room.bytes,
+        by_both.packets,
+        by_both.bytes,
     )?;
+    driver.fit(alloc, there.packets, there.bytes);
     Ok(driver)
 }
 

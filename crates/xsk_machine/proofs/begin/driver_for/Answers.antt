@@ -1,60 +1,97 @@
-use Rattle.std.proofs.Common.{◌≡◌, ℕ, ◌<◌, List, length, sym, ap, subst, ◌∙◌, arith}
+use Rattle.std.proofs.Common.{◌≡◌, ℕ, ◌+◌, ◌≤◌, List, [], ◌++◌, length, sym, ap, subst, ◌∙◌, arith}
+use Rattle.std.specs.List.{concat, slice_index_or}
+use Rattle.xsk_prog.specs.declared.rule.Verdict.{Verdict}
 use Rattle.xsk_model.specs.Config.{pair_at}
-use Rattle.xsk_model.specs.declared.config.PairInfo.{PairInfo}
 use Rattle.xsk_turns.specs.Inputs.{packets_of_port, packets_of_queue}
-use Rattle.xsk_turns.specs.Verdicts.{EachHas, IsGiven}
+use Rattle.xsk_turns.specs.Sending.{bouncing}
+use Rattle.xsk_turns.specs.Turns.{Kept}
+use Rattle.xsk_turns.specs.Verdicts.{judged, EachHas, IsGiven}
 use Rattle.xsk_turns.specs.Workers.{Setting}
 use Rattle.xsk_driver.specs.Asking.{AreAsked, IsAnswer, questions_on, verdicts_in}
-use Rattle.xsk_machine.specs.Acts.{HasRoomToSend}
-use Rattle.xsk_machine.proofs.Beginning.{input_numbers, list_at, new_driver, ports_known}
+use Rattle.xsk_driver.specs.Runs.{IsNew}
+use Rattle.xsk_laws.specs.Expected.{received}
+use Rattle.xsk_machine.specs.Acts.{received_there}
+use Rattle.xsk_machine.specs.Amounts.{IsAmountOf}
+use Rattle.xsk_machine.proofs.Beginning.{bounces_within, input_numbers, list_found, new_driver, new_with_room, room_fits, room_to_send}
+use Rattle.xsk_machine.proofs.begin.driver_for.Given as given
 use Rattle.xsk_machine.proofs.begin.driver_for.Goals as goal
+
+-- the packets of its port, which those of the numbers are of
+at_port : (g : given.Over) (c : goal.After-driver-2-1 g) → c.index-packets-info.result.packets ≡ packets_of_port c.args.packets.now (pair_at c.args.config.now.pairs c.args.pair).port
+at_port g c =
+    list_found c.args.config.now c.args.packets.now c.pairs.result.now c.args.pair c.index-packets-info.result c.requires.regular c.pairs.ensures.lawful c.pairs.ensures.value c.requires.lists c.requires.pair
+    c.index-packets-info.is
+
+-- the driver is new, with room for all
+new_for_all : (g : given.Over) (c : goal.After-driver-2-1 g)
+    → IsNew c.args.wire c.args.config.now c.args.pair
+    (judged (packets_of_queue c.args.config.now.queues (pair_at c.args.config.now.pairs c.args.pair).queue c.index-packets-info.result.packets) (verdicts_in c.in_ok-driver.driver.kept)) c.in_ok-driver.driver
+new_for_all g c =
+    c.in_ok-driver.ensures.is_new
+    (c.of_pair.ensures ∙ input_numbers c.args.config.now c.args.packets.now c.args.inputs.now c.args.pair c.index-packets-info.result.packets c.requires.inputs c.requires.pair (at_port g c))
+
+-- each of its packets has its verdict
+asked : (g : given.Over) (c : goal.After-driver-2-1 g)
+    → EachHas (IsGiven (IsAnswer g.F.Fn c.args.chain.now (pair_at c.args.config.now.pairs c.args.pair).queue))
+    (packets_of_queue c.args.config.now.queues (pair_at c.args.config.now.pairs c.args.pair).queue c.index-packets-info.result.packets) (verdicts_in c.in_ok-driver.driver.kept)
+asked g c =
+    c.in_ok-driver.ensures.asked
+    (c.of_pair.ensures ∙ input_numbers c.args.config.now c.args.packets.now c.args.inputs.now c.args.pair c.index-packets-info.result.packets c.requires.inputs c.requires.pair (at_port g c))
+
+-- the room that is wanted is within that
+within : (g : given.Over) (c : goal.After-driver-2-1 g)
+    → (c.in-Some.arrivals.there.packets + length (bouncing c.in_ok-driver.driver.kept.coming) ≤ c.in-Some.arrivals.by_both.packets)
+    × (c.in-Some.arrivals.there.bytes + length (concat (bouncing c.in_ok-driver.driver.kept.coming)) ≤ c.in-Some.arrivals.by_both.bytes)
+within g c =
+    let config = c.args.config.now in
+    let lists = c.args.packets.now in
+    let at = pair_at config.pairs c.args.pair in
+    let mine = packets_of_queue config.queues at.queue c.index-packets-info.result.packets in
+    let same : received config lists at.port at.queue ≡ mine = ap (packets_of_queue config.queues at.queue) (sym (at_port g c)) in
+    let bounced : List (List ℕ) = bouncing (judged mine (verdicts_in c.in_ok-driver.driver.kept)) in
+    let fits = room_fits mine (received_there config lists c.args.pair) bounced c.in-Some.arrivals.by_both c.in-Some.arrivals.there
+    (subst (λ (ps : List (List ℕ)). IsAmountOf (ps ++ received_there config lists c.args.pair) c.in-Some.arrivals.by_both) same c.in-Some.ensures.0) c.in-Some.ensures.1
+    (bounces_within (IsGiven (IsAnswer g.F.Fn c.args.chain.now at.queue)) mine (verdicts_in c.in_ok-driver.driver.kept) (asked g c)) in
+    subst (λ (ps : List (List ℕ)). (c.in-Some.arrivals.there.packets + length ps ≤ c.in-Some.arrivals.by_both.packets) × (c.in-Some.arrivals.there.bytes + length (concat ps) ≤ c.in-Some.arrivals.by_both.bytes))
+    (sym (ap (λ (k : Kept). bouncing k.coming) (new_for_all g c).kept)) fits
+
+pub fit-requires-clause-unsent : goal.fit-requires-clause-unsent
+fit-requires-clause-unsent g c = (new_for_all g c).sent
+
+pub fit-requires-clause-packets : goal.fit-requires-clause-packets
+fit-requires-clause-packets g c = omega (arith, (within g c).0, c.in_ok-driver.ensures.sent_room.0)
+
+pub fit-requires-clause-bytes : goal.fit-requires-clause-bytes
+fit-requires-clause-bytes g c = omega (arith, (within g c).1, c.in_ok-driver.ensures.sent_room.1)
 
 pub returns-clause-new : goal.returns-clause-new
 returns-clause-new g c manner verdicts given =
     let s : Setting = record { config = c.args.config.now; wire = c.args.wire; manner = manner; packets = c.args.packets.now; verdicts = verdicts } in
-    let pair = c.args.pair in
-    let known : pair < length s.config.pairs = c.requires.pair in
-    let below : pair < length c.pairs.result.now = omega (arith, known, ap (length {A = PairInfo}) c.pairs.ensures.value) in
-    let ports = ports_known s.config c.pairs.result.now (length s.packets) pair c.requires.regular c.pairs.ensures.lawful c.pairs.ensures.value c.requires.lists below in
     let list = c.index-packets-info.result in
-    let at : list.packets ≡ packets_of_port s.packets (pair_at s.config.pairs pair).port =
-    list_at s.packets (pair_at c.pairs.result.now pair).port list c.index-packets-info.is ports.0
-    ∙ ap (λ (ps : List PairInfo). packets_of_port s.packets (pair_at ps pair).port) c.pairs.ensures.value in
-    let room : HasRoomToSend s pair c.in_ok-driver.driver = record {
-      packets = c.in_ok-driver.ensures.sent_room.0 ∙ c.in-Some.ensures.0;
-      bytes = c.in_ok-driver.ensures.sent_room.1 ∙ c.in-Some.ensures.1;
-    } in
-    new_driver s pair list.packets (verdicts_in c.in_ok-driver.driver.kept) c.in_ok-driver.driver known room at (sym given)
-    (c.in_ok-driver.ensures.is_new (c.of_pair.ensures ∙ input_numbers s.config s.packets c.args.inputs.now pair list.packets c.requires.inputs known at))
+    let queue : ℕ = (pair_at s.config.pairs c.args.pair).queue in
+    let before = c.in_ok-driver.driver in
+    let driver = c.fit.new.self in
+    let new = new_for_all g c.before in
+    let kept_as : verdicts_in before.kept ≡ slice_index_or s.verdicts c.args.pair [] = ap verdicts_in (sym c.fit.ensures.kept) ∙ sym given in
+    let room = room_to_send s c.args.pair list.packets (verdicts_in before.kept) before.kept.coming c.in-Some.arrivals.there driver (ap (λ (k : Kept). k.coming) new.kept) (at_port g c.before) kept_as
+    c.in-Some.ensures.1 c.fit.ensures.packets c.fit.ensures.bytes in
+    new_driver s c.args.pair list.packets (verdicts_in driver.kept) driver c.requires.pair room (at_port g c.before) (sym given)
+    (new_with_room c.args.wire s.config c.args.pair (packets_of_queue s.config.queues queue list.packets) before driver new c.fit.ensures.seat c.fit.ensures.wait c.fit.ensures.kept c.fit.ensures.unsent)
 
 pub returns-clause-asked : goal.returns-clause-asked
 returns-clause-asked g c =
     let config = c.args.config.now in
-    let lists = c.args.packets.now in
-    let pair = c.args.pair in
-    let known : pair < length config.pairs = c.requires.pair in
-    let below : pair < length c.pairs.result.now = omega (arith, known, ap (length {A = PairInfo}) c.pairs.ensures.value) in
-    let ports = ports_known config c.pairs.result.now (length lists) pair c.requires.regular c.pairs.ensures.lawful c.pairs.ensures.value c.requires.lists below in
-    let list = c.index-packets-info.result in
-    let at : list.packets ≡ packets_of_port lists (pair_at config.pairs pair).port =
-    list_at lists (pair_at c.pairs.result.now pair).port list c.index-packets-info.is ports.0
-    ∙ ap (λ (ps : List PairInfo). packets_of_port lists (pair_at ps pair).port) c.pairs.ensures.value in
-    subst (λ (l : List (List ℕ)). EachHas (IsGiven (IsAnswer g.F.Fn c.args.chain.now (pair_at config.pairs pair).queue)) (packets_of_queue config.queues (pair_at config.pairs pair).queue l)
-    (verdicts_in c.in_ok-driver.driver.kept)) at
-    (c.in_ok-driver.ensures.asked (c.of_pair.ensures ∙ input_numbers config lists c.args.inputs.now pair list.packets c.requires.inputs known at))
+    let queue : ℕ = (pair_at config.pairs c.args.pair).queue in
+    let P : List ℕ → Verdict → Type 0 = IsGiven (IsAnswer g.F.Fn c.args.chain.now queue) in
+    subst (λ (k : Kept). EachHas P (packets_of_queue config.queues queue (packets_of_port c.args.packets.now (pair_at config.pairs c.args.pair).port)) (verdicts_in k)) (sym c.fit.ensures.kept)
+    (subst (λ (l : List (List ℕ)). EachHas P (packets_of_queue config.queues queue l) (verdicts_in c.in_ok-driver.driver.kept)) (at_port g c.before) (asked g c.before))
 
 pub returns-clause-once : goal.returns-clause-once
 returns-clause-once g c =
     let config = c.args.config.now in
-    let lists = c.args.packets.now in
-    let pair = c.args.pair in
-    let known : pair < length config.pairs = c.requires.pair in
-    let below : pair < length c.pairs.result.now = omega (arith, known, ap (length {A = PairInfo}) c.pairs.ensures.value) in
-    let ports = ports_known config c.pairs.result.now (length lists) pair c.requires.regular c.pairs.ensures.lawful c.pairs.ensures.value c.requires.lists below in
+    let queue : ℕ = (pair_at config.pairs c.args.pair).queue in
     let list = c.index-packets-info.result in
-    let at : list.packets ≡ packets_of_port lists (pair_at config.pairs pair).port =
-    list_at lists (pair_at c.pairs.result.now pair).port list c.index-packets-info.is ports.0
-    ∙ ap (λ (ps : List PairInfo). packets_of_port lists (pair_at ps pair).port) c.pairs.ensures.value in
-    let queue : ℕ = (pair_at config.pairs pair).queue in
-    subst (λ (l : List (List ℕ)). AreAsked g.F.Fn (questions_on queue (packets_of_queue config.queues queue l)) (verdicts_in c.in_ok-driver.driver.kept) c.args.chain.now c.new.new.chain) at
-    (c.in_ok-driver.ensures.once (c.of_pair.ensures ∙ input_numbers config lists c.args.inputs.now pair list.packets c.requires.inputs known at))
+    subst (λ (k : Kept). AreAsked g.F.Fn (questions_on queue (packets_of_queue config.queues queue (packets_of_port c.args.packets.now (pair_at config.pairs c.args.pair).port))) (verdicts_in k) c.args.chain.now c.new.new.chain)
+    (sym c.fit.ensures.kept)
+    (subst (λ (l : List (List ℕ)). AreAsked g.F.Fn (questions_on queue (packets_of_queue config.queues queue l)) (verdicts_in c.in_ok-driver.driver.kept) c.args.chain.now c.new.new.chain) (at_port g c.before)
+    (c.in_ok-driver.ensures.once (c.of_pair.ensures ∙ input_numbers config c.args.packets.now c.args.inputs.now c.args.pair list.packets c.requires.inputs c.requires.pair (at_port g c.before))))
