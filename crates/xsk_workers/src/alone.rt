@@ -30,6 +30,7 @@ pub(crate) fn run_alone<R: Wait, W: Rests, G: Gate>(
         match worker.turn(shared) {
             Pace::Ended => break,
             Pace::Moved => waiting.end(),
+            Pace::Put(count) => waiting.end_with(count),
             Pace::Waited => waiting.wait(),
             Pace::Parked => worker.rest(rt, waiting.backoff()),
         }

@@ -10,6 +10,8 @@ use xsk_shared_ends::Turned;
 pub(crate) enum Pace {
     /// Its call moved something.
     Moved,
+    /// Its call put so many items on a ring.
+    Put(u32),
     /// It found a ring full or empty, or looked at a mark.
     Waited,
     /// Its driver found that it wasn't kicked, and looks again.
@@ -39,8 +41,12 @@ impl Pace {
     {
         match self {
             Pace::Moved => Pace::Moved,
-            Pace::Waited => match other {
+            Pace::Put(_) => match other {
                 Pace::Moved => Pace::Moved,
+                _ => self,
+            },
+            Pace::Waited => match other {
+                Pace::Moved | Pace::Put(_) => other,
                 _ => Pace::Waited,
             },
             Pace::Parked => match other {

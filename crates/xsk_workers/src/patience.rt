@@ -8,6 +8,12 @@ use xsk_table::Shared;
 /// How often a patient application spins: some 4 microseconds, and up to 20 on a processor that pauses for longer.
 const SPINS: u32 = 512;
 
+/// How many frames of a queue it doesn't spin for behind a Submit of few items, those of one batch, and how often it spins for
+/// each of the others.
+const HELD_FRAMES: u32 = 32;
+
+const SPINS_PER_FRAME: u32 = 4;
+
 /// How long a worker waits behind turns that moved nothing. What an application finds then is more at once, and it takes lines
 /// from the processors of the drivers less often.
 #[derive(Clone, Copy)]
@@ -16,8 +22,8 @@ pub(crate) enum Patience {
     Short,
     /// It yields, and backs off.
     Yielding,
-    /// It spins, yields, and backs off.
-    Long,
+    /// It spins, yields, and backs off; and behind a Submit of fewer items than a batch may have it spins so often.
+    Long { batch: u32, behind_few: u32 },
 }
 
 impl Patience {
@@ -31,7 +37,10 @@ impl Patience {
         match processors(rt) {
             1 => Patience::Short,
             count if count < config.callers() as usize => Patience::Yielding,
-            _ => Patience::Long,
+            _ => Patience::Long {
+                batch: config.batch(),
+                behind_few: spins_behind_few(config.pool()),
+            },
         }
     }
 
@@ -40,7 +49,7 @@ impl Patience {
     fn turns(self) -> u32 {
         match self {
             Patience::Short => 3,
-            Patience::Yielding | Patience::Long => 1,
+            Patience::Yielding | Patience::Long { .. } => 1,
         }
     }
 
@@ -49,12 +58,20 @@ impl Patience {
         match self {
             Patience::Short => {}
             Patience::Yielding => thread::yield_now(),
-            Patience::Long => {
-                spin();
+            Patience::Long { .. } => {
+                spin(SPINS);
                 thread::yield_now();
             }
         }
         backoff.snooze();
+    }
+
+    /// Waits behind a Submit of so many items.
+    fn wait_behind(self, count: u32) {
+        match self {
+            Patience::Long { batch, behind_few } if count < batch => spin(behind_few),
+            _ => {}
+        }
     }
 }
 
@@ -92,6 +109,13 @@ impl Waiting {
         self.backoff.reset();
     }
 
+    /// Begins anew behind a Submit of so many items, and waits where they are few.
+    #[inline(always)]
+    pub(crate) fn end_with(&mut self, count: u32) {
+        self.end();
+        self.patience.wait_behind(count);
+    }
+
     /// How far it has backed off.
     pub(crate) fn backoff(&self) -> &Backoff {
         &self.backoff
@@ -106,8 +130,16 @@ fn processors<R: Threads>(rt: &R) -> usize {
     }
 }
 
-fn spin() {
-    for _ in 0..SPINS {
+/// How often a patient application spins behind a Submit of few items, where each queue has so many frames: the fewer they are,
+/// the sooner a driver waits for them.
+fn spins_behind_few(pool: u32) -> u32 {
+    pool.saturating_sub(HELD_FRAMES)
+        .saturating_mul(SPINS_PER_FRAME)
+        .min(SPINS)
+}
+
+fn spin(times: u32) {
+    for _ in 0..times {
         hint::spin_loop();
     }
 }

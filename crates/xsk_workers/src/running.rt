@@ -92,7 +92,7 @@ pub(crate) fn finish<R: Wait, W: Turns>(rt: &R, shared: &Shared, members: &mut V
     for _ in rt.forever() {
         match take_turns(shared, members) {
             Pace::Ended => break,
-            Pace::Moved => backoff.reset(),
+            Pace::Moved | Pace::Put(_) => backoff.reset(),
             Pace::Waited | Pace::Parked => backoff.snooze(),
         }
     }

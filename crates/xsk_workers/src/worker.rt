@@ -119,6 +119,7 @@ impl<M: Machine + Drop, P: Context> Turns for Worker<M, P> {
         let Some(ask) = self.ask else {
             return Pace::Ended;
         };
+        let count = self.items.len();
         let answer = self.pass.serve(shared, ask, &mut self.items);
         self.calls = self.calls.saturating_add(1);
         self.machine
@@ -128,6 +129,7 @@ impl<M: Machine + Drop, P: Context> Turns for Worker<M, P> {
             &self.pass,
             self.pass.caller(),
             ask,
+            count,
             answer,
             self.ask,
         )
@@ -161,13 +163,14 @@ impl<'a, P: Context> Leaves for Worker<AnyWorker<'a>, P> {
     }
 }
 
-/// Wakes the driver that a caller's last call has kicked, and tells what came of the call, where this is its next. Only a Swap
-/// kicks, and it always moves something: so no other call is asked whether it kicks.
+/// Wakes the driver that a caller's last call of so many items has kicked, and tells what came of the call, where this is its next.
+/// Only a Swap kicks, and it always moves something: so no other call is asked whether it kicks.
 fn end_turn<P: Context>(
     place: &P,
     pass: &Pass,
     who: u32,
     ask: Ask,
+    count: u32,
     answer: Answer,
     next: Option<Ask>,
 ) -> Pace
@@ -180,6 +183,7 @@ fn end_turn<P: Context>(
             wake(place, pass, ask);
             Pace::Moved
         }
+        Ask::Submit(_) => Pace::Put(count),
         _ => pace_of(who, ask, answer, next),
     }
 }
