@@ -1,5 +1,5 @@
 -- New workers of a setting.
-use Rattle.std.proofs.Common.{◌≡◌, ℕ, ◌+◌, ◌<◌, ◌≤◌, ◌⊎◌, inl, inr, All, List, [], ◌++◌, Option, None, Some, map, length, length-append, sym, subst, ap, ◌∙◌, ⊎_elim, arith}
+use Rattle.std.proofs.Common.{◌≡◌, ℕ, ◌+◌, ◌<◌, ◌≤◌, ◌⊎◌, inl, inr, Bool, true, false, if◌then◌else◌, All, List, [], ◌++◌, Option, None, Some, map, length, length-append, refl, sym, subst, ap, ◌∙◌, ⊎_elim, arith}
 use Rattle.std.proofs.lemmas.List.{get_or-map, get_or_default, length-map}
 use Rattle.std.proofs.lemmas.Nat.{div_below}
 use Rattle.std.proofs.lemmas.List.Folds.{concat-append}
@@ -178,13 +178,21 @@ bounces_within P packets verdicts each =
     (omega (arith, bouncing_few input, length-map input (λ (x : Judged). x.bytes), ap length same), omega (arith, bouncing_bytes input, ap (λ (ps : List (List ℕ)). length (concat ps)) same))
 
 -- the room for others and for what is to bounce is within that for all
-pub room_fits : (mine others bounced : List (List ℕ)) (both there : Amount) → IsAmountOf (mine ++ others) both → IsAmountOf others there
+room_fits : (mine others bounced : List (List ℕ)) (both there : Amount) → IsAmountOf (mine ++ others) both → IsAmountOf others there
     → (length bounced ≤ length mine) × (length (concat bounced) ≤ length (concat mine))
     → (there.packets + length bounced ≤ both.packets) × (there.bytes + length (concat bounced) ≤ both.bytes)
 room_fits mine others bounced both there all some few = (
   omega (arith, all.0, some.0, few.0, length-append mine others),
   omega (arith, all.1, some.1, few.1, ap length (concat-append mine others), length-append (concat mine) (concat others)),
 )
+
+-- and within that for others alone, where none bounces
+pub room_is_enough : (b : Bool) (mine others bounced : List (List ℕ)) (both there : Amount) → IsAmountOf (mine ++ others) both → IsAmountOf others there
+    → (length bounced ≤ length mine) × (length (concat bounced) ≤ length (concat mine)) → (b ≡ true → bounced ≡ [])
+    → (there.packets + length bounced ≤ (if b then there else both).packets) × (there.bytes + length (concat bounced) ≤ (if b then there else both).bytes)
+room_is_enough true mine others bounced both there all some few none =
+    let is = none refl in (omega (arith, ap length is), omega (arith, ap (λ (ps : List (List ℕ)). length (concat ps)) is))
+room_is_enough false mine others bounced both there all some few none = room_fits mine others bounced both there all some few
 
 -- a driver whose room is that has room to send all that can leave
 pub room_to_send : (s : Setting) (pair : ℕ) (list : List (List ℕ)) (verdicts : List Verdict) (coming : List Judged) (there : Amount) (d : DriverShown)

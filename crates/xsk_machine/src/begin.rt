@@ -1,9 +1,10 @@
 //! New drivers of a setting.
-ghost use Rattle.std.specs.Prelude.{◌≡◌, ◌<◌, ◌≤◌, ◌^◌, ◌⊎◌, false, All, List, [], length, IfOk, MatchOption, OnErr};
+ghost use Rattle.std.specs.Prelude.{◌≡◌, ◌<◌, ◌≤◌, ◌^◌, ◌⊎◌, false, if◌then◌else◌, not, All, List, [], length, IfOk, MatchOption, OnErr};
 ghost use Rattle.std.specs.List.{concat, slice_index_or};
 ghost use Rattle.xsk_model.specs.Config.{IsRegular, pair_at};
 ghost use Rattle.xsk_model.specs.Expected.{nothing};
-ghost use Rattle.xsk_prog.specs.Chain.{AllObey, SamePrograms};
+ghost use Rattle.xsk_prog.specs.Chain.{AllObey, SamePrograms, rules_of};
+ghost use Rattle.xsk_laws.specs.Expected.{may_bounce, none_bounces};
 ghost use Rattle.xsk_prog.specs.declared.rule.Verdict.{Verdict as AVerdict};
 ghost use Rattle.xsk_turns.specs.Inputs.{inputs_of};
 ghost use Rattle.xsk_turns.specs.Verdicts.{EachHas, IsGiven};
@@ -19,10 +20,11 @@ use std::alloc::Global;
 use xsk_driver::{Driver, Wire};
 use xsk_model::Config;
 use xsk_model::steering::{driver_on, paired_port};
-use xsk_prog::{Chain, Verdict};
+use xsk_prog::{Chain, Rule, Verdict};
 use xsk_umem::{OutOfMemory, PacketList};
 
 /// The packets that came to a pair's port on its queue and to the paired port, and of them those that came to the paired port.
+#[derive(Clone, Copy)]
 struct Arrivals {
     by_both: Amount,
     there: Amount,
@@ -51,8 +53,42 @@ fn arrivals_at(
     Some(Arrivals { by_both, there })
 }
 
+/// Whether a program of this rule never lets a packet bounce (XDP_TX).
+fn never_bounces(rule: Rule) -> bool
+    ensures { result ≡ not (may_bounce rule) }
+{
+    match rule {
+        Rule::Bounce | Rule::BounceType { .. } => false,
+        _ => true,
+    }
+}
+
+/// Whether no program of a chain ever lets a packet bounce.
+fn chain_never_bounces<F: Fn(&[u8], u32) -> Verdict>(chain: &Chain<F>) -> bool
+    ensures { result ≡ none_bounces (rules_of chain.now) }
+{
+    for program in chain.programs() {
+        if !never_bounces(program.rule()) {
+            return false;
+        }
+    }
+    true
+}
+
+/// The room that a driver takes before its chain is asked: for what came to the paired port, and for all where packets may bounce.
+fn room_before_asking<F: Fn(&[u8], u32) -> Verdict>(chain: &Chain<F>, arrivals: &Arrivals) -> Amount
+    ensures { result ≡ (if none_bounces (rules_of chain.now) then arrivals.now.there else arrivals.now.by_both) }
+{
+    if chain_never_bounces(chain) {
+        arrivals.there
+    } else {
+        arrivals.by_both
+    }
+}
+
 /// The driver of a pair with a wire, and with room to send all packets that the paired port received on its queue, and those of its
-/// own that bounce (XDP_TX). There is one list of packets for each port, none of which has more than 262,144 bytes, and the inputs are those of these lists.
+/// own that bounce (XDP_TX). There is one list of packets for each port, none of which has more than 262,144 bytes, and the inputs are
+/// those of these lists.
 /// The chain is asked once for each of the driver's packets that has an Ethernet header, and nothing where memory can't be had.
 pub fn driver_for<'a, F: Fn(&[u8], u32) -> Verdict>(
     alloc: Global,
@@ -83,8 +119,9 @@ pub fn driver_for<'a, F: Fn(&[u8], u32) -> Verdict>(
     let Some(arrivals) = arrivals_at(config, packets, inputs, pair) else {
         return Err(OutOfMemory);
     };
-    let Arrivals { by_both, there } = arrivals;
-    // What bounces is known once the chain was asked, for which all memory must be there: so it is taken for all.
+    // What bounces is known once the chain was asked, for which all memory must be there.
+    let room = room_before_asking(chain, &arrivals);
+    let there = arrivals.there;
     let mut driver = Driver::new(
         alloc,
         config,
@@ -93,8 +130,8 @@ pub fn driver_for<'a, F: Fn(&[u8], u32) -> Verdict>(
         inputs.of_pair(pair),
         chain,
         wire,
-        by_both.packets,
-        by_both.bytes,
+        room.packets,
+        room.bytes,
     )?;
     driver.fit(alloc, there.packets, there.bytes);
     Ok(driver)

@@ -9,10 +9,15 @@ use Rattle.xsk_turns.specs.Verdicts.{judged, EachHas, IsGiven}
 use Rattle.xsk_turns.specs.Workers.{Setting}
 use Rattle.xsk_driver.specs.Asking.{AreAsked, IsAnswer, questions_on, verdicts_in}
 use Rattle.xsk_driver.specs.Runs.{IsNew}
-use Rattle.xsk_laws.specs.Expected.{received}
+use Rattle.std.specs.Prelude.{if◌then◌else◌}
+use Rattle.xsk_prog.specs.Chain.{rules_of}
+use Rattle.xsk_laws.specs.Expected.{received, none_bounces}
+use Rattle.xsk_laws.proofs.Bounced.{none_to_bounce}
+use Rattle.xsk_driver.proofs.Asking.{all_meet}
+use Rattle.xsk_machine.specs.declared.inputs.Amount.{Amount}
 use Rattle.xsk_machine.specs.Acts.{received_there}
 use Rattle.xsk_machine.specs.Amounts.{IsAmountOf}
-use Rattle.xsk_machine.proofs.Beginning.{bounces_within, input_numbers, list_found, new_driver, new_with_room, room_fits, room_to_send}
+use Rattle.xsk_machine.proofs.Beginning.{bounces_within, input_numbers, list_found, new_driver, new_with_room, room_is_enough, room_to_send}
 use Rattle.xsk_machine.proofs.begin.driver_for.Given as given
 use Rattle.xsk_machine.proofs.begin.driver_for.Goals as goal
 
@@ -22,7 +27,7 @@ at_port g c =
     list_found c.args.config.now c.args.packets.now c.pairs.result.now c.args.pair c.index-packets-info.result c.requires.regular c.pairs.ensures.lawful c.pairs.ensures.value c.requires.lists c.requires.pair
     c.index-packets-info.is
 
--- the driver is new, with room for all
+-- the driver is new, with the room that is taken
 new_for_all : (g : given.Over) (c : goal.After-driver-2-1 g)
     → IsNew c.args.wire c.args.config.now c.args.pair
     (judged (packets_of_queue c.args.config.now.queues (pair_at c.args.config.now.pairs c.args.pair).queue c.index-packets-info.result.packets) (verdicts_in c.in_ok-driver.driver.kept)) c.in_ok-driver.driver
@@ -38,22 +43,29 @@ asked g c =
     c.in_ok-driver.ensures.asked
     (c.of_pair.ensures ∙ input_numbers c.args.config.now c.args.packets.now c.args.inputs.now c.args.pair c.index-packets-info.result.packets c.requires.inputs c.requires.pair (at_port g c))
 
--- the room that is wanted is within that
+-- the room that is wanted is within that which is taken
 within : (g : given.Over) (c : goal.After-driver-2-1 g)
-    → (c.in-Some.arrivals.there.packets + length (bouncing c.in_ok-driver.driver.kept.coming) ≤ c.in-Some.arrivals.by_both.packets)
-    × (c.in-Some.arrivals.there.bytes + length (concat (bouncing c.in_ok-driver.driver.kept.coming)) ≤ c.in-Some.arrivals.by_both.bytes)
+    → (c.in-Some.arrivals.there.packets + length (bouncing c.in_ok-driver.driver.kept.coming) ≤ c.room_before_asking-room.result.packets)
+    × (c.in-Some.arrivals.there.bytes + length (concat (bouncing c.in_ok-driver.driver.kept.coming)) ≤ c.room_before_asking-room.result.bytes)
 within g c =
     let config = c.args.config.now in
     let lists = c.args.packets.now in
     let at = pair_at config.pairs c.args.pair in
+    let rules = rules_of c.args.chain.now in
+    let there = c.in-Some.arrivals.there in
     let mine = packets_of_queue config.queues at.queue c.index-packets-info.result.packets in
+    let verdicts = verdicts_in c.in_ok-driver.driver.kept in
     let same : received config lists at.port at.queue ≡ mine = ap (packets_of_queue config.queues at.queue) (sym (at_port g c)) in
-    let bounced : List (List ℕ) = bouncing (judged mine (verdicts_in c.in_ok-driver.driver.kept)) in
-    let fits = room_fits mine (received_there config lists c.args.pair) bounced c.in-Some.arrivals.by_both c.in-Some.arrivals.there
+    let bounced : List (List ℕ) = bouncing (judged mine verdicts) in
+    let enough = room_is_enough (none_bounces rules) mine (received_there config lists c.args.pair) bounced c.in-Some.arrivals.by_both there
     (subst (λ (ps : List (List ℕ)). IsAmountOf (ps ++ received_there config lists c.args.pair) c.in-Some.arrivals.by_both) same c.in-Some.ensures.0) c.in-Some.ensures.1
-    (bounces_within (IsGiven (IsAnswer g.F.Fn c.args.chain.now at.queue)) mine (verdicts_in c.in_ok-driver.driver.kept) (asked g c)) in
-    subst (λ (ps : List (List ℕ)). (c.in-Some.arrivals.there.packets + length ps ≤ c.in-Some.arrivals.by_both.packets) × (c.in-Some.arrivals.there.bytes + length (concat ps) ≤ c.in-Some.arrivals.by_both.bytes))
-    (sym (ap (λ (k : Kept). bouncing k.coming) (new_for_all g c).kept)) fits
+    (bounces_within (IsGiven (IsAnswer g.F.Fn c.args.chain.now at.queue)) mine verdicts (asked g c))
+    (λ none. none_to_bounce rules at.queue mine verdicts none (all_meet g.F.Fn c.args.chain.now at.queue mine verdicts (asked g c))) in
+    subst (λ (a : Amount). (there.packets + length (bouncing c.in_ok-driver.driver.kept.coming) ≤ a.packets) × (there.bytes + length (concat (bouncing c.in_ok-driver.driver.kept.coming)) ≤ a.bytes))
+    (sym c.room_before_asking-room.ensures)
+    (subst (λ (ps : List (List ℕ)). (there.packets + length ps ≤ (if none_bounces rules then there else c.in-Some.arrivals.by_both).packets)
+    × (there.bytes + length (concat ps) ≤ (if none_bounces rules then there else c.in-Some.arrivals.by_both).bytes))
+    (sym (ap (λ (k : Kept). bouncing k.coming) (new_for_all g c).kept)) enough)
 
 pub fit-requires-clause-unsent : goal.fit-requires-clause-unsent
 fit-requires-clause-unsent g c = (new_for_all g c).sent
