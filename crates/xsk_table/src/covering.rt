@@ -11,7 +11,6 @@ ghost use Rattle.xsk_table.specs.Plays.{IsReady, Ended, Extends, HasRoom, HasIte
 ghost use Rattle.xsk_table.specs.Held.{Belongs, IsAt, known_on, with_known, is_covered};
 
 use crate::board::{Board, Chair};
-use crate::end::End;
 use crate::pass::Pass;
 use crate::shared::Shared;
 use crate::view::{Asking, View};
@@ -149,7 +148,7 @@ impl Pass {
         ensures history { Extends self.old.view.setup self.old.who (Reserve ring n) Granted self.old.view self.new.view }
         ensures known { self.new.known ≡ with_known self.old ring (known_on self.old ring - n) }
     {
-        let end = self.ends[at];
+        let end = &mut self.ends[at];
         grant(
             &shared.board,
             &mut self.seat,
@@ -158,9 +157,8 @@ impl Pass {
             n,
             end.base + PRODUCER,
         );
-        let known = end.known - n;
-        let far = end.far.wrapping_add(n);
-        self.ends[at] = End { far, known, ..end };
+        end.known -= n;
+        end.far = end.far.wrapping_add(n);
     }
 
     /// The step of a Peek that is covered: it gets all that it asks for, at a look at the caller's own count. It adds the
@@ -175,7 +173,7 @@ impl Pass {
         ensures history { (items : List Item) × (length items ≡ n) × (self.new.view.flight ≡ still ring items) × Extends self.old.view.setup self.old.who (Peek ring n) (items_reply items) self.old.view self.new.view }
         ensures known { self.new.known ≡ with_known self.old ring (known_on self.old ring - n) }
     {
-        let end = self.ends[at];
+        let end = &mut self.ends[at];
         give(
             &shared.board,
             &mut self.seat,
@@ -184,12 +182,8 @@ impl Pass {
             n,
             end.base + CONSUMER,
         );
-        let left = end.known - n;
-        self.ends[at] = End {
-            far: end.far.wrapping_add(n),
-            known: left,
-            ..end
-        };
+        end.known -= n;
+        end.far = end.far.wrapping_add(n);
         self.flying = n;
     }
 }

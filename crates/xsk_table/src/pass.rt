@@ -100,7 +100,7 @@ impl Pass {
         ensures known { self.new.known ≡ with_known self.old ring (free_after self.old.view.setup self.new.view.seen ring) }
         ensures steps { steps.new ≡ steps.old + 1 }
     {
-        let end = self.ends[at];
+        let end = &mut self.ends[at];
         let free = steps::reserve_step(
             &shared.board,
             &mut self.seat,
@@ -114,11 +114,8 @@ impl Pass {
         );
         let reply = reply_by(n, free);
         let got = granted_by(&reply, n);
-        self.ends[at] = End {
-            far: end.far.wrapping_add(got),
-            known: free - got,
-            ..end
-        };
+        end.far = end.far.wrapping_add(got);
+        end.known = free - got;
         reply
     }
 
@@ -163,7 +160,7 @@ impl Pass {
         ensures flight { self.new.view.flight ≡ idle }
         ensures history { Extends self.old.view.setup self.old.who (Submit ring (lying self.old.view.flight)) Submitted self.old.view self.new.view }
     {
-        let end = self.ends[at];
+        let end = &mut self.ends[at];
         steps::raise_producer(
             &shared.board,
             &mut self.seat,
@@ -173,8 +170,7 @@ impl Pass {
             self.flying,
             end.base + PRODUCER,
         );
-        let near = end.near.wrapping_add(self.flying);
-        self.ends[at] = End { near, ..end };
+        end.near = end.near.wrapping_add(self.flying);
         self.flying = 0;
     }
 
@@ -197,7 +193,7 @@ impl Pass {
         ensures known { self.new.known ≡ with_known self.old ring (out_after self.old.view.setup self.new.view.seen ring) }
         ensures steps { steps.new ≡ steps.old + 1 }
     {
-        let end = self.ends[at];
+        let end = &mut self.ends[at];
         let out = steps::peek_step(
             &shared.board,
             &mut self.seat,
@@ -209,11 +205,8 @@ impl Pass {
             steps,
         );
         let count = n.min(out);
-        self.ends[at] = End {
-            far: end.far.wrapping_add(count),
-            known: out - count,
-            ..end
-        };
+        end.far = end.far.wrapping_add(count);
+        end.known = out - count;
         self.flying = count;
         count
     }
@@ -255,7 +248,7 @@ impl Pass {
         ensures flight { self.new.view.flight ≡ idle }
         ensures history { Extends self.old.view.setup self.old.who (Release ring n) Released self.old.view self.new.view }
     {
-        let end = self.ends[at];
+        let end = &mut self.ends[at];
         steps::raise_consumer(
             &shared.board,
             &mut self.seat,
@@ -265,7 +258,6 @@ impl Pass {
             end.near,
             end.base + CONSUMER,
         );
-        let near = end.near.wrapping_add(n);
-        self.ends[at] = End { near, ..end };
+        end.near = end.near.wrapping_add(n);
     }
 }

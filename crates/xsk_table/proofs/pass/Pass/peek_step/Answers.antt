@@ -25,7 +25,7 @@ invariant_of-self g c =
     let did = c.peek_step-out.ensures.history in
     let E : Basis → Type 0 = λ k. Extends k c.self.inside.who (Peek c.args.ring c.args.n) (items_reply did.0) v c.peek_step-out.new.seat.me.0 in
     let count = c.min-count.ensures in (
-      pass_peeked v _ _ _ _ c.self.invariant.0 c.args.ring _ c.index-end.result.now legal.known at c.index-end.ensures _ _ c.args.n _ _ did.0 legal (subst E (sym setup) did.3) c.peek_step-out.ensures.slots did.2 (did.1 ∙ sym count),
+      pass_peeked v _ _ _ _ c.self.invariant.0 c.args.ring _ c.index_mut-end.result.now legal.known at c.index_mut-end.ensures.value _ _ c.args.n _ _ did.0 legal (subst E (sym setup) did.3) c.peek_step-out.ensures.slots did.2 (did.1 ∙ sym count),
       pass_looked v c.peek_step-out.new.seat.me.0 c.self.inside.who c.self.inside.ends.items (Peek c.args.ring c.args.n) (items_reply did.0) (subst E (sym setup) did.3) legal c.self.invariant.1 c.args.ring _ _ legal.known (λ r. refl) at (in_row v.setup c.self.inside.who _ c.self.inside.ends.items c.args.ring _ c.self.invariant.0.ends_hold legal.known at)
           (λ fills. absurd ((two_owners v.setup.config c.args.ring c.self.invariant.0.history.opened.config legal.known).2 (sym fills ∙ legal.role)))
           (λ empties. let n = items_left c.shared.inside.board.setup v.setup c.peek_step-out.new.seat.me.0.seen c.args.ring c.args.n _ _ setup c.peek_step-out.ensures.left count in omega arith),

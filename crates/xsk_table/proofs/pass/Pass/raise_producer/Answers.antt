@@ -22,10 +22,10 @@ invariant_of-self c =
     let setup : v.setup ≡ c.shared.inside.board.setup = ap (λ (h : Holder). h.view.setup) (sym is) ∙ c.requires.belongs.setup ∙ ap (λ (b : Board). b.setup) (sym c.shared.view_is) in
     let at = c.requires.at.0 ∙ ap (λ (b : Board). place b.setup.config c.args.ring) (sym c.shared.view_is) ∙ ap (λ (k : Basis). place k.config c.args.ring) (sym setup) in
     let E : Basis → Type 0 = λ k. Extends k c.self.inside.who (Submit c.args.ring (lying v.flight)) Submitted v c.raise_producer.new.seat.me.0 in (
-      pass_raised v _ _ _ _ c.self.invariant.0 c.args.ring _ c.index-end.result.now legal.known at c.index-end.ensures _ _ legal (subst E (sym setup) c.raise_producer.ensures.history) c.raise_producer.ensures.slots c.raise_producer.ensures.flight,
-      pass_kept v c.raise_producer.new.seat.me.0 c.self.inside.who c.self.inside.ends.items (Submit c.args.ring (lying v.flight)) Submitted (subst E (sym setup) c.raise_producer.ensures.history) legal c.self.invariant.1 _ c.index-end.result.now _ refl refl c.index-end.ensures refl,
-      left_kept v c.raise_producer.new.seat.me.0 c.self.inside.who c.self.inside.ends.items (Submit c.args.ring (lying v.flight)) Submitted (subst E (sym setup) c.raise_producer.ensures.history) c.self.invariant.2 _ c.index-end.result.now _ refl refl c.index-end.ensures refl,
+      pass_raised v _ _ _ _ c.self.invariant.0 c.args.ring _ c.index_mut-end.result.now legal.known at c.index_mut-end.ensures.value _ _ legal (subst E (sym setup) c.raise_producer.ensures.history) c.raise_producer.ensures.slots c.raise_producer.ensures.flight,
+      pass_kept v c.raise_producer.new.seat.me.0 c.self.inside.who c.self.inside.ends.items (Submit c.args.ring (lying v.flight)) Submitted (subst E (sym setup) c.raise_producer.ensures.history) legal c.self.invariant.1 _ c.index_mut-end.result.now _ refl refl c.index_mut-end.ensures.value refl,
+      left_kept v c.raise_producer.new.seat.me.0 c.self.inside.who c.self.inside.ends.items (Submit c.args.ring (lying v.flight)) Submitted (subst E (sym setup) c.raise_producer.ensures.history) c.self.invariant.2 _ c.index_mut-end.result.now _ refl refl c.index_mut-end.ensures.value refl,
     )
 
 pub returns-clause-known : goal.returns-clause-known
-returns-clause-known c = known_stays c.self.inside.ends.items _ c.index-end.result.now _ c.index-end.ensures refl ∙ ap (λ (h : Holder). h.known) c.self.view_is
+returns-clause-known c = known_stays c.self.inside.ends.items _ c.index_mut-end.result.now _ c.index_mut-end.ensures.value refl ∙ ap (λ (h : Holder). h.known) c.self.view_is

@@ -20,17 +20,17 @@ invariant_of-self c =
     let legal = subst L is c.requires.legal in
     let setup : v.setup ≡ c.shared.inside.board.setup = ap (λ (h : Holder). h.view.setup) (sym is) ∙ c.requires.belongs.setup ∙ ap (λ (b : Board). b.setup) (sym c.shared.view_is) in
     let at = c.requires.at.0 ∙ ap (λ (b : Board). place b.setup.config c.args.ring) (sym c.shared.view_is) ∙ ap (λ (k : Basis). place k.config c.args.ring) (sym setup) in
-    let known = known_at c.self.inside.ends.items _ _ c.index-end.result.now c.index-end.ensures (in_row v.setup c.self.inside.who _ c.self.inside.ends.items c.args.ring _ c.self.invariant.0.ends_hold legal.known at) at in
-    let few : c.args.n ≤ c.index-end.result.now.known = rw known (subst (λ (h : Holder). c.args.n ≤ known_on h c.args.ring) is c.requires.covered) in
+    let known = known_at c.self.inside.ends.items _ _ c.index_mut-end.result.now c.index_mut-end.ensures.value (in_row v.setup c.self.inside.who _ c.self.inside.ends.items c.args.ring _ c.self.invariant.0.ends_hold legal.known at) at in
+    let few : c.args.n ≤ c.index_mut-end.result.now.known = rw known (subst (λ (h : Holder). c.args.n ≤ known_on h c.args.ring) is c.requires.covered) in
     let E : Basis → Type 0 = λ k. Extends k c.self.inside.who (Reserve c.args.ring c.args.n) Granted v c.grant.new.seat.me.0 in
     let rests = ap (λ (h : Holder). h.view.flight) (sym is) ∙ c.requires.rests in
     let ex = subst E (sym setup) c.grant.ensures.history in
     let call = Reserve c.args.ring c.args.n in (
-      pass_reserved v _ _ _ _ c.self.invariant.0 c.args.ring _ c.index-end.result.now legal.known at c.index-end.ensures _ _ c.args.n c.args.n _ Granted legal ex c.grant.ensures.slots rests c.grant.ensures.flight refl,
+      pass_reserved v _ _ _ _ c.self.invariant.0 c.args.ring _ c.index_mut-end.result.now legal.known at c.index_mut-end.ensures.value _ _ c.args.n c.args.n _ Granted legal ex c.grant.ensures.slots rests c.grant.ensures.flight refl,
       pass_covered v c.grant.new.seat.me.0 c.self.inside.who c.self.inside.ends.items call Granted ex legal c.self.invariant.1 c.args.ring _ _ legal.known (λ r. refl) at (in_row v.setup c.self.inside.who _ c.self.inside.ends.items c.args.ring _ c.self.invariant.0.ends_hold legal.known at)
-          c.index-end.result.now c.args.n c.index-end.ensures (omega arith) (λ fills. omega arith) (λ empties. omega arith),
+          c.index_mut-end.result.now c.args.n c.index_mut-end.ensures.value (omega arith) (λ fills. omega arith) (λ empties. omega arith),
       left_covered v c.grant.new.seat.me.0 c.self.inside.who c.self.inside.ends.items call Granted ex c.self.invariant.2 c.args.ring _ _ legal.known (λ r. refl) at (in_row v.setup c.self.inside.who _ c.self.inside.ends.items c.args.ring _ c.self.invariant.0.ends_hold legal.known at)
-          c.index-end.result.now c.args.n c.index-end.ensures (omega arith) (omega arith),
+          c.index_mut-end.result.now c.args.n c.index_mut-end.ensures.value (omega arith) (omega arith),
     )
 
 pub returns-clause-known : goal.returns-clause-known
@@ -41,5 +41,5 @@ returns-clause-known c =
     let legal = subst L is c.requires.legal in
     let setup : v.setup ≡ c.shared.inside.board.setup = ap (λ (h : Holder). h.view.setup) (sym is) ∙ c.requires.belongs.setup ∙ ap (λ (b : Board). b.setup) (sym c.shared.view_is) in
     let at = c.requires.at.0 ∙ ap (λ (b : Board). place b.setup.config c.args.ring) (sym c.shared.view_is) ∙ ap (λ (k : Basis). place k.config c.args.ring) (sym setup) in
-    let known = known_at c.self.inside.ends.items _ _ c.index-end.result.now c.index-end.ensures (in_row v.setup c.self.inside.who _ c.self.inside.ends.items c.args.ring _ c.self.invariant.0.ends_hold legal.known at) at in
+    let known = known_at c.self.inside.ends.items _ _ c.index_mut-end.result.now c.index_mut-end.ensures.value (in_row v.setup c.self.inside.who _ c.self.inside.ends.items c.args.ring _ c.self.invariant.0.ends_hold legal.known at) at in
     known_set c.self.inside.ends.items _ _ ∙ (λ i. set (known_in c.self.inside.ends.items) (at i) (known i - c.args.n)) ∙ ap (λ (h : Holder). with_known h c.args.ring (known_on h c.args.ring - c.args.n)) c.self.view_is

@@ -27,7 +27,7 @@ invariant_of-self g c =
     let rests = ap (λ (h : Holder). h.view.flight) (sym is) ∙ c.requires.rests in
     let ex = subst E (sym setup) (subst (λ (t : Reply). Extends c.shared.inside.board.setup c.self.inside.who (Reserve c.args.ring c.args.n) t v c.reserve_step-free.new.seat.me.0) (sym c.reply_by-reply.ensures) c.reserve_step-free.ensures.history) in
     let call = Reserve c.args.ring c.args.n in (
-      pass_reserved v _ _ _ _ c.self.invariant.0 c.args.ring _ c.index-end.result.now legal.known at c.index-end.ensures _ _ c.args.n _ _ c.reply_by-reply.result legal ex c.reserve_step-free.ensures.slots (ap (λ (h : Holder). h.view.flight) (sym is) ∙ c.requires.rests) c.reserve_step-free.ensures.flight (c.granted_by-got.ensures c.args.ring),
+      pass_reserved v _ _ _ _ c.self.invariant.0 c.args.ring _ c.index_mut-end.result.now legal.known at c.index_mut-end.ensures.value _ _ c.args.n _ _ c.reply_by-reply.result legal ex c.reserve_step-free.ensures.slots (ap (λ (h : Holder). h.view.flight) (sym is) ∙ c.requires.rests) c.reserve_step-free.ensures.flight (c.granted_by-got.ensures c.args.ring),
       pass_looked v c.reserve_step-free.new.seat.me.0 c.self.inside.who c.self.inside.ends.items call c.reply_by-reply.result ex legal c.self.invariant.1 c.args.ring _ _ legal.known (λ r. refl) at (in_row v.setup c.self.inside.who _ c.self.inside.ends.items c.args.ring _ c.self.invariant.0.ends_hold legal.known at)
           (λ fills. let n = places_left c.shared.inside.board.setup v.setup c.reserve_step-free.new.seat.me.0.seen c.args.ring c.args.n _ _ c.reply_by-reply.result setup c.reserve_step-free.ensures.left c.reply_by-reply.ensures (c.granted_by-got.ensures c.args.ring) in omega arith) (λ empties. absurd ((two_owners v.setup.config c.args.ring c.self.invariant.0.history.opened.config legal.known).2 (sym legal.role ∙ empties))),
       left_looked v c.reserve_step-free.new.seat.me.0 c.self.inside.who c.self.inside.ends.items call c.reply_by-reply.result ex c.self.invariant.2 c.args.ring _ _ legal.known (λ r. refl) at (in_row v.setup c.self.inside.who _ c.self.inside.ends.items c.args.ring _ c.self.invariant.0.ends_hold legal.known at)
