@@ -3,6 +3,7 @@
 #![tactic(auto)]
 
 mod batch;
+mod behind;
 mod frame;
 mod front;
 mod geometry;

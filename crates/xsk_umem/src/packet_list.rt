@@ -11,6 +11,7 @@ ghost use Rattle.xsk_umem.specs.Shared.{bytes_of, MaySpare};
 ghost use Rattle.xsk_umem.specs.Span.{at_span, len_of, AreInText, end_of, spans_from, text_with, laid_from, AreSpans, HaveGaps, HasText, IsWithin, first_gap, gap_before};
 
 use crate::OutOfMemory;
+use crate::behind::write_behind;
 use crate::front::Front;
 use crate::headers::{Headers, Zeros};
 use std::alloc::Global;
@@ -45,6 +46,11 @@ pub struct Parts {
     /// The gaps between them. None where the list was made of spans, which may stand anywhere.
     pub gaps: Option<Gaps>,
 }
+
+/// The bytes of a line, which is what processors have of memory: four spans.
+const LINE: u32 = 64;
+
+const NO_SPAN: Span = Span { start: 0, len: 0 };
 
 const NO_GAPS: Gaps = Gaps {
     first: 0,
@@ -275,6 +281,17 @@ impl PacketList {
         self.spare_bytes -= bytes.len() as u64;
     }
 
+    /// Writes ahead, and takes back, what so many packets of so many bytes in all take behind the last packet, as far as there is room
+    /// for it: so a processor waits once for the lines on which they are to stand. The list stays as it was.
+    pub fn write_ahead(&mut self, packets: u32, bytes: u32)
+        ensures { self.new ≡ self.old }
+    {
+        let gaps = packets.saturating_mul(before_each(self.gaps));
+        let lines = gaps.saturating_add(bytes) / LINE;
+        write_behind(&mut self.text, &[0; LINE as usize], lines as usize);
+        write_behind(&mut self.spans, &[NO_SPAN; 4], packets as usize / 4);
+    }
+
     /// Appends bytes to the last packet in the room that is reserved, which must hold them, and lowers that room by them.
     pub fn extend_last(&mut self, bytes: &[u8])
         requires some { 1 ≤ length self.old.packets }
@@ -376,13 +393,17 @@ fn before_each(gaps: Option<Gaps>) -> u32
     }
 }
 
-/// Appends so many zero bytes, for which there must be room: 16 at once, as before a capture's packet, and the rest.
+/// Appends so many zero bytes, for which there must be room: the 16 before a capture's packet in one step, and others 16 at once.
 fn append_gap(text: &mut Vec<u8>, gap: u32)
     requires { vec_len text.old + gap ≤ vec_capacity text.old }
     ensures items { text.new.items ≡ text.old.items ++ replicate gap 0 }
     ensures len { vec_len text.new ≡ vec_len text.old + gap }
     ensures capacity { vec_capacity text.old ≤ vec_capacity text.new }
 {
+    if gap == 16 {
+        text.extend_from_slice(&[0; 16]).unwrap();
+        return;
+    }
     for _ in 0..gap / 16 {
         text.extend_from_slice(&[0; 16]).unwrap();
     }

@@ -7,7 +7,7 @@ pub loop-preserved : goal.loop-preserved
 loop-preserved c =
     let before : List ℕ = c.args.text.now.items in
     let so : List ℕ = replicate (c.loop.counter * 16) 0 in
-    let grown : c.extend_from_slice.new.self.items ≡ c.loop.text.items ++ replicate 16 0 = rw c.unwrap.ensures at c.extend_from_slice.ensures.items in
+    let grown : c.extend_from_slice-in-loop.new.self.items ≡ c.loop.text.items ++ replicate 16 0 = rw c.unwrap-in-loop.ensures at c.extend_from_slice-in-loop.ensures.items in
     let count : c.loop.counter * 16 + 16 ≡ (c.loop.counter + 1) * 16 = omega arith in (
       grown ∙ ap (λ (xs : List ℕ). xs ++ replicate 16 0) c.loop.invariant.0 ∙ append_assoc before so (replicate 16 0)
           ∙ ap (λ (xs : List ℕ). before ++ xs) (replicate-append-replicate (c.loop.counter * 16) 16 0) ∙ ap (λ n. before ++ replicate n 0) count,
