@@ -15,6 +15,7 @@ use crate::sending::Sending;
 use std::alloc::Global;
 use std::collections::VecDeque;
 use std::marker::Model;
+use std::mem;
 use xsk_desc::payload_of;
 use xsk_model::steering::MOST_FRAGMENTS;
 use xsk_umem::{Batch, Geometry, Item, OutOfMemory, XdpDesc};
@@ -113,6 +114,16 @@ impl Finished {
     }
 }
 
+/// Has a queue begin at the first of its places, where few of them are used, so that those are lines that the processor has.
+fn begin_at_first(queue: &mut VecDeque<Item>)
+    ensures items { queue.new.items ≡ queue.old.items }
+    ensures capacity { deque_capacity queue.new ≡ deque_capacity queue.old }
+{
+    let none = VecDeque::new(*queue.allocator());
+    let places = mem::replace(queue, none).into_vec();
+    *queue = VecDeque::from_vec(places);
+}
+
 /// Moves all items of the batch and then a last one to the end of the queue, which has room for them.
 fn append(queue: &mut VecDeque<Item>, items: &mut Batch, last: Item)
     requires { length queue.old.items + length items.old + 1 ≤ deque_capacity queue.old }
@@ -177,6 +188,9 @@ fn send_whole(
     let item = queue.pop_front().unwrap();
     sending.add(payload_of(&item, geometry, sg));
     items.push(returned(item));
+    if queue.is_empty() {
+        begin_at_first(queue);
+    }
 }
 
 /// Takes the first items of the queue, so many, for the packet that was begun last: appends their bytes to it, and puts the
