@@ -60,6 +60,7 @@ pub(crate) fn reserve_anew<L: Ledger>(
 }
 
 /// Puts all items of the batch into reserved places of a ring, and raises the producer over them.
+#[inline(always)]
 pub(crate) fn submit(pass: &mut Pass, shared: &Shared, ring: Ring, items: &mut Batch) -> Answer
     requires may { MayAsk shared.now pass.old (Submit ring items.old) }
     ensures told { Tells pass.old pass.new (Submit ring items.old) (joined_reply result items.new) }
@@ -99,6 +100,7 @@ fn look_for_items<L: Ledger>(
 }
 
 /// Takes at most so many items from a ring into an empty batch, by one look.
+#[inline(always)]
 pub(crate) fn peek<L: Ledger>(
     pass: &mut Pass,
     shared: &Shared,

@@ -131,7 +131,7 @@ impl<M: Machine + Drop, P: Context> Turns for Worker<M, P> {
             ask,
             count,
             answer,
-            self.ask,
+            &self.ask,
         )
     }
 }
@@ -172,11 +172,11 @@ fn end_turn<P: Context>(
     ask: Ask,
     count: u32,
     answer: Answer,
-    next: Option<Ask>,
+    next: &Option<Ask>,
 ) -> Pace
     requires { IsLastOf pass.now ask }
     ensures goes_on { (result ≡ Ended) → ⊥ }
-    ensures parked { result ≡ Parked ↔ (ask ≡ Look (Kick who)) × (answer ≡ Old 0) × (next ≡ Some (Look (Kick who))) }
+    ensures parked { result ≡ Parked ↔ (ask ≡ Look (Kick who)) × (answer ≡ Old 0) × (next.now ≡ Some (Look (Kick who))) }
 {
     match ask {
         Ask::Swap(..) => {
@@ -208,12 +208,12 @@ fn waker_for<P: Context>(place: &P, ask: Ask) -> Option<&Unparker>
 }
 
 /// What came of a caller's call, where this is its next.
-fn pace_of(who: u32, ask: Ask, answer: Answer, next: Option<Ask>) -> Pace
+fn pace_of(who: u32, ask: Ask, answer: Answer, next: &Option<Ask>) -> Pace
     ensures goes_on { (result ≡ Ended) → ⊥ }
-    ensures parked { result ≡ Parked ↔ (ask ≡ Look (Kick who)) × (answer ≡ Old 0) × (next ≡ Some (Look (Kick who))) }
+    ensures parked { result ≡ Parked ↔ (ask ≡ Look (Kick who)) × (answer ≡ Old 0) × (next.now ≡ Some (Look (Kick who))) }
 {
     let look = Ask::Look(Mark::Kick(who));
-    if ask == look && answer == Answer::Old(0) && next == Some(look) {
+    if ask == look && answer == Answer::Old(0) && *next == Some(look) {
         return Pace::Parked;
     }
     match (ask, answer) {

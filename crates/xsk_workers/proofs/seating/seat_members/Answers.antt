@@ -1,4 +1,4 @@
-use Rattle.std.proofs.Common.{rules, ◌≡◌, ℕ, ◌+◌, ◌<◌, ◌≤◌, ◌==◌, [], ◌∷◌, length, map, arith, sym, ap, subst, ◌∙◌, Bool, length-append}
+use Rattle.std.proofs.Common.{rules, ◌≡◌, ℕ, ◌+◌, ◌<◌, ◌==◌, [], ◌∷◌, length, map, arith, sym, ap, subst, ◌∙◌, Bool, length-append}
 use Rattle.std.specs.List.{range_with_len}
 use Rattle.xsk_model.specs.Config.{callers_of}
 use Rattle.xsk_turns.specs.Workers.{Setting}

@@ -1,8 +1,7 @@
-use Rattle.std.proofs.Common.{◌≡◌, ◌<◌, ◌≤◌, ◌∙◌, ℕ, None, true, IfSome, length, refl, sym, ap, subst, arith}
+use Rattle.std.proofs.Common.{◌<◌, ◌≤◌, ℕ, length, refl, sym, subst, arith}
 use Rattle.xsk_model.specs.Config.{Config, callers_of}
 use Rattle.xsk_turns.specs.Workers.{Setting}
-use Rattle.xsk_table.specs.Held.{Holder}
-use Rattle.xsk_machine.specs.Workers.{IsFreshDriver, IsNew, setting_by}
+use Rattle.xsk_machine.specs.Workers.{IsNew, setting_by}
 use Rattle.xsk_workers.specs.Hands.{team_seat}
 use Rattle.xsk_workers.proofs.Sleeping.{no_parker}
 use Rattle.xsk_workers.proofs.seating.seat_one.Goals as goal

@@ -1,4 +1,4 @@
-use Rattle.std.proofs.Common.{rules, arith, ◌≡◌, ◌≤◌, ℕ, List, length, map, refl, sym, ap, subst, ◌∙◌, false}
+use Rattle.std.proofs.Common.{arith, ◌≡◌, ◌≤◌, ℕ, List, length, map, refl, sym, ap, subst, ◌∙◌, false}
 use Rattle.std.specs.Prelude.{All, Option, is_some}
 use Rattle.std.proofs.lemmas.List.Elements.{All-map}
 use Rattle.xsk_driver.specs.Sent.{IsShort}
