@@ -1,6 +1,7 @@
 """What Linux does with a packet that comes: the program, the XSKMAP, FILL, RX and the statistics."""
 
 import os
+import select
 
 from cases import case
 from linux import (COPY, USE_NEED_WAKEUP, USE_SG, XDP_DROP, XDP_PASS, XDP_TX, Map, Umem, Wire, Xsk, answers, attach, packet,
@@ -158,6 +159,27 @@ def whose_statistics():
     wire.send(packet(60), packet(60))
     yield "of the socket", xsk.raised(), {"rx_dropped": 1, "rx_fill_ring_empty_descs": 1}
     yield "of the other", other.raised(), {"rx_fill_ring_empty_descs": 1}
+
+
+@case("SOCKETS.md", "the flags of the first bind hold for all that share its UMEM")
+def shared_sg():
+    """XDP_USE_SG of the first socket, and a packet for the second."""
+    xsk, wire = receiver(headroom=892, flags=COPY | USE_SG)
+    other = Xsk(xsk.umem, fill=0, completion=0, shared=xsk)
+    xsk.map.put(0, other)
+    wire.send(packet(1000))
+    yield "on RX of the second", other.rx.take(2), [(2048 - 900, 900, 1), (4096 - 900, 100, 0)]
+
+
+@case("WAKEUP.md", "poll() says POLLIN once something stands on RX, and FILL needs no call in copy mode")
+def readable():
+    """poll() on a socket with RX alone."""
+    xsk, wire = receiver(tx=0)
+    poll = select.poll()
+    poll.register(xsk.fileno(), select.POLLIN)
+    yield "nothing there", poll.poll(0), []
+    wire.send(packet(60))
+    yield "a packet", (poll.poll(500), xsk.rx.waiting), ([(xsk.fileno(), select.POLLIN)], 1)
 
 
 @case("WAKEUP.md", "in copy mode FILL's flag stays 0, and TX's is 1 from the making of the ring on, whatever the option")

@@ -122,6 +122,7 @@ def metadata():
     yield "three calls", [xsk.sendto() for _ in range(3)], ["EINVAL"] * 3
     yield "sent, invalid, standing", (wire.quiet(0.02), xsk.statistics()["tx_invalid_descs"], xsk.tx.waiting), (0, 0, 2)
     yield "completed", xsk.completion.take(3), [4096, 4096, 4096]
+    yield "20 calls, a COMPLETION of 16", ([xsk.sendto() for _ in range(20)][-1], xsk.completion.waiting), ("EINVAL", 20)
 
 
 @case(PAGE, "XDP_PKT_CONTD on a socket without XDP_USE_SG is taken: the packet goes on")

@@ -42,6 +42,7 @@ def sizes():
     umem = Umem(16, 2048)
     for length, wanted in ((0, "EINVAL"), (2048, "ok"), (6144, "ok"), (6145, "EINVAL")):
         yield f"{length} bytes", errno_of(lambda length=length: umem.register(bare(), length=length)), wanted
+    yield "8,192 chunks", errno_of(Umem(8192, 2048).register, bare()), "ok"
     yield "an address within a page", errno_of(lambda: umem.register(bare(), address=umem.address + 2048, length=2048)), "EINVAL"
 
 
