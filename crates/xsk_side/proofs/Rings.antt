@@ -232,7 +232,7 @@ fits_here ring size (Cancel (Comp d) n) within reply has = back_fits ring n size
 fits_here ring size (Cancel (Rx k) n) within reply has = back_fits ring n size within
 fits_here ring size (Cancel (Tx k) n) within reply has = omega (arith, within)
 
-has_room : (s : Setting) (past : List Entry) (who : Party) (call : Call) → HasRole who call → IsCounted s (own who past) call
+pub has_room : (s : Setting) (past : List Entry) (who : Party) (call : Call) → HasRole who call → IsCounted s (own who past) call
     → (ring_at (ring_of call) past).room ≡ room_of (ring_of call) (own (producer (ring_of call)) past) → HasRoom (ring_at (ring_of call) past) call
 has_room s past who (Reserve r n answer) role counted is = tt
 has_room s past who (Free r n places) role counted is = tt
