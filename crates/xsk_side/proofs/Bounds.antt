@@ -105,17 +105,17 @@ sure_sound s [] r legal made = omega arith
 sure_sound s (e ∷ past) r legal made =
     let q = ring_of e.call in
     ⊎_elim
-      (λ (is : r ≡ q).
-        let sound = rings_sound s past legal.0 q in
-        let q_made : is_made q ≡ true = subst (λ x. is_made x ≡ true) is made in
-        subst (λ x. sure_of s x (own Program (e ∷ past)) ≤ free (size_of s x) (ring_at x (e ∷ past))) (sym is)
-          (subst (λ ring. sure_of s q (own Program (e ∷ past)) ≤ free (size_of s q) ring) (sym (ring_here past e.who e.call))
-            (subst (λ k. k ≤ free (size_of s q) (ring_after (ring_at q past) e.call)) (sym (sure_own_here s past e.who e.call))
-              (sure_here e.who e.call (ring_at q past) (size_of s q) (sure_of s q (own Program past)) q_made legal.1.role
-                (has_room s past e.who e.call legal.1.role legal.1.counted sound.room)
-                (may_cancel s past e.who e.call q_made legal.1.role legal.1.counted sound.room)
-                legal.2 sound.within (sure_sound s past q legal.0 q_made)))))
-      (λ (off : is_ring r q ≡ false).
-        subst (λ ring. sure_of s r (own Program (e ∷ past)) ≤ free (size_of s r) ring) (sym (ring_else r past e.who e.call off))
-          (subst (λ k. k ≤ free (size_of s r) (ring_at r past)) (sym (sure_own_else s past e.who e.call r off)) (sure_sound s past r legal.0 made)))
-      (same_or r q)
+    (λ (is : r ≡ q).
+    let sound = rings_sound s past legal.0 q in
+    let q_made : is_made q ≡ true = subst (λ x. is_made x ≡ true) is made in
+    subst (λ x. sure_of s x (own Program (e ∷ past)) ≤ free (size_of s x) (ring_at x (e ∷ past))) (sym is)
+    (subst (λ ring. sure_of s q (own Program (e ∷ past)) ≤ free (size_of s q) ring) (sym (ring_here past e.who e.call))
+    (subst (λ k. k ≤ free (size_of s q) (ring_after (ring_at q past) e.call)) (sym (sure_own_here s past e.who e.call))
+    (sure_here e.who e.call (ring_at q past) (size_of s q) (sure_of s q (own Program past)) q_made legal.1.role
+    (has_room s past e.who e.call legal.1.role legal.1.counted sound.room)
+    (may_cancel s past e.who e.call q_made legal.1.role legal.1.counted sound.room)
+    legal.2 sound.within (sure_sound s past q legal.0 q_made)))))
+    (λ (off : is_ring r q ≡ false).
+    subst (λ ring. sure_of s r (own Program (e ∷ past)) ≤ free (size_of s r) ring) (sym (ring_else r past e.who e.call off))
+    (subst (λ k. k ≤ free (size_of s r) (ring_at r past)) (sym (sure_own_else s past e.who e.call r off)) (sure_sound s past r legal.0 made)))
+    (same_or r q)

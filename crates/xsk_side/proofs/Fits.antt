@@ -85,7 +85,7 @@ fits_entries s past r n es legal role reply =
       places = omega (arith, held_is s past r legal role, length-front es out reply.1, (rings_sound s past legal r).within);
       once = λ f. omega (arith, times-split s f (length back) es, times-front s f es out reply.1, (frames_sound s past f legal).place.alone r);
       new = subst (λ xs. MayCome s (given_of s mine) (strays_given s (pair_of s r) mine) r xs) (sym (drop-front (length back) es out reply.1))
-        (first_come s (given_of s mine) (strays_given s (pair_of s r) mine) (length es - length back) r (drop (length back) out) rest.comes
+          (first_come s (given_of s mine) (strays_given s (pair_of s r) mine) (length es - length back) r (drop (length back) out) rest.comes
           (λ d is. few_strays s past r d legal is));
     }
 
@@ -96,9 +96,9 @@ fits_reply s past (Reserve r n (Full told)) legal now reply =
     (reply.1, omega (arith, reply.0, sure_sound s past r legal (made_by r now.role)), omega (arith, reply.0, room_is s past r legal now.role))
 fits_reply s past (Reserve r n Refused) legal now reply = omega (arith, reply, sure_sound s past r legal (made_by r now.role))
 fits_reply s past (Free r n places) legal now reply = (
-      omega (arith, reply.0, room_is s past r legal (is_producer r now.role.1)),
-      λ less. omega (arith, reply.1 less, sure_sound s past r legal now.role.1),
-    )
+  omega (arith, reply.0, room_is s past r legal (is_producer r now.role.1)),
+  λ less. omega (arith, reply.1 less, sure_sound s past r legal now.role.1),
+)
 fits_reply s past (Submit r es) legal now reply = tt
 fits_reply s past (Peek r n es) legal now reply = fits_entries s past r n es legal now.role reply
 fits_reply s past (Release r n) legal now reply = tt
