@@ -1,24 +1,22 @@
 -- FILL and TX: at least so many places are free as the program knows for certain.
-use Rattle.std.proofs.Common.{◌≡◌, ℕ, ◌+◌, ◌-◌, ◌≤◌, max, Bool, true, false, cond, List, [], ◌∷◌, ◌++◌, length, take, drop, refl, sym, ap, ◌∙◌, subst, arith, length-append, length-drop, ⊎_elim}
-use Rattle.xsk_umem.specs.declared.batch.XdpDesc.{XdpDesc}
+use Rattle.std.proofs.Common.{◌≡◌, ℕ, ◌+◌, ◌-◌, ◌≤◌, true, false, List, [], ◌∷◌, length, refl, sym, ap, ◌∙◌, subst, arith, length-append, length-drop, ⊎_elim}
 use Rattle.xsk_model.specs.declared.call.Ring.{Ring}
 use Rattle.xsk_model.specs.declared.call.Ring.TheVariants.{Fill, Comp, Rx, Tx}
 use Rattle.xsk_model.specs.Rings.{is_ring}
 use Rattle.xsk_model.proofs.Places.{is_ring-self}
 use Rattle.xsk_side.specs.Setting.{Setting, size_of}
-use Rattle.xsk_side.specs.Object.{Entry, RingState, ring_of, ring_at, ring_after, producer, consumer, is_made, granted, free, Replies}
+use Rattle.xsk_side.specs.Object.{Entry, RingState, ring_of, ring_at, ring_after, producer, consumer, is_made, free, Replies}
 use Rattle.xsk_side.specs.Own.{room_of}
-use Rattle.xsk_side.specs.Legal.{IsLegal, HasRole, IsCounted}
+use Rattle.xsk_side.specs.Legal.{HasRole, IsCounted}
 use Rattle.xsk_side.specs.Possible.{IsHistory, own}
 use Rattle.xsk_side.specs.Local.{sure_of, sure_after}
 use Rattle.xsk_side.specs.declared.call.Party.{Party}
 use Rattle.xsk_side.specs.declared.call.Party.TheVariants.{Program, Kernel}
-use Rattle.xsk_side.specs.declared.call.Answer.{Answer}
 use Rattle.xsk_side.specs.declared.call.Answer.TheVariants.{Granted, Full, Refused}
 use Rattle.xsk_side.specs.declared.call.Call.{Call}
 use Rattle.xsk_side.specs.declared.call.Call.TheVariants.{Reserve, Free, Submit, Peek, Release, Cancel}
 use Rattle.xsk_side.proofs.Lists.{length-front}
-use Rattle.xsk_side.proofs.Rings.{entry, same_or, ring_here, ring_else, is_true, is_false, filled, HasRoom, has_room, IsRingSound, rings_sound}
+use Rattle.xsk_side.proofs.Rings.{entry, same_or, ring_here, ring_else, is_true, is_false, filled, HasRoom, has_room, rings_sound}
 
 -- whose call may take places of FILL and TX
 pub made_producer : (r : Ring) → is_made r ≡ true → producer r ≡ Program
@@ -105,17 +103,17 @@ sure_sound s [] r legal made = omega arith
 sure_sound s (e ∷ past) r legal made =
     let q = ring_of e.call in
     ⊎_elim
-      (λ (is : r ≡ q).
-        let sound = rings_sound s past legal.0 q in
-        let q_made : is_made q ≡ true = subst (λ x. is_made x ≡ true) is made in
-        subst (λ x. sure_of s x (own Program (e ∷ past)) ≤ free (size_of s x) (ring_at x (e ∷ past))) (sym is)
-          (subst (λ ring. sure_of s q (own Program (e ∷ past)) ≤ free (size_of s q) ring) (sym (ring_here past e.who e.call))
-            (subst (λ k. k ≤ free (size_of s q) (ring_after (ring_at q past) e.call)) (sym (sure_own_here s past e.who e.call))
-              (sure_here e.who e.call (ring_at q past) (size_of s q) (sure_of s q (own Program past)) q_made legal.1.role
-                (has_room s past e.who e.call legal.1.role legal.1.counted sound.room)
-                (may_cancel s past e.who e.call q_made legal.1.role legal.1.counted sound.room)
-                legal.2 sound.within (sure_sound s past q legal.0 q_made)))))
-      (λ (off : is_ring r q ≡ false).
-        subst (λ ring. sure_of s r (own Program (e ∷ past)) ≤ free (size_of s r) ring) (sym (ring_else r past e.who e.call off))
-          (subst (λ k. k ≤ free (size_of s r) (ring_at r past)) (sym (sure_own_else s past e.who e.call r off)) (sure_sound s past r legal.0 made)))
-      (same_or r q)
+    (λ (is : r ≡ q).
+    let sound = rings_sound s past legal.0 q in
+    let q_made : is_made q ≡ true = subst (λ x. is_made x ≡ true) is made in
+    subst (λ x. sure_of s x (own Program (e ∷ past)) ≤ free (size_of s x) (ring_at x (e ∷ past))) (sym is)
+    (subst (λ ring. sure_of s q (own Program (e ∷ past)) ≤ free (size_of s q) ring) (sym (ring_here past e.who e.call))
+    (subst (λ k. k ≤ free (size_of s q) (ring_after (ring_at q past) e.call)) (sym (sure_own_here s past e.who e.call))
+    (sure_here e.who e.call (ring_at q past) (size_of s q) (sure_of s q (own Program past)) q_made legal.1.role
+    (has_room s past e.who e.call legal.1.role legal.1.counted sound.room)
+    (may_cancel s past e.who e.call q_made legal.1.role legal.1.counted sound.room)
+    legal.2 sound.within (sure_sound s past q legal.0 q_made)))))
+    (λ (off : is_ring r q ≡ false).
+    subst (λ ring. sure_of s r (own Program (e ∷ past)) ≤ free (size_of s r) ring) (sym (ring_else r past e.who e.call off))
+    (subst (λ k. k ≤ free (size_of s r) (ring_at r past)) (sym (sure_own_else s past e.who e.call r off)) (sure_sound s past r legal.0 made)))
+    (same_or r q)

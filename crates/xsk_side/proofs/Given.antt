@@ -1,7 +1,7 @@
 -- Where each frame that the program gave away is: on FILL or TX, with the kernel, which took it there, or on RX or COMPLETION behind
 -- what a Cancel put back, where it may come.
-use Rattle.std.proofs.Common.{◌≡◌, ℕ, zero, suc, ◌+◌, ◌-◌, ◌<◌, ◌≤◌, ◌⊎◌, Bool, true, false, ◌&&◌, ◌||◌, not, ◌==◌, cond, Option, Some, None, List, [], ◌∷◌, ◌++◌, length, take, drop, map, get_or, refl, sym, ap, ◌∙◌, subst, arith, length-drop, ⊎_elim, inl, inr}
-use Rattle.std.specs.Prelude.{nat_lt, is_some, IsTrue, All}
+use Rattle.std.proofs.Common.{◌≡◌, ℕ, zero, suc, ◌+◌, ◌-◌, ◌≤◌, ◌⊎◌, Bool, true, false, ◌&&◌, ◌||◌, not, cond, Option, Some, None, List, [], ◌∷◌, ◌++◌, length, take, drop, get_or, refl, sym, ap, ◌∙◌, subst, arith, length-drop, ⊎_elim, inl, inr}
+use Rattle.std.specs.Prelude.{nat_lt, is_some, IsTrue}
 use Rattle.std.proofs.lemmas.Bool.Decides.{nat_tests}
 use Rattle.std.proofs.lemmas.List.Elements.{All-drop, All-append, All-nil}
 use Rattle.std.proofs.lemmas.List.{drop-drop, drop-append-le, take-append-le}
@@ -13,9 +13,9 @@ use Rattle.xsk_model.specs.Rings.{is_ring}
 use Rattle.xsk_model.proofs.Places.{is_ring-self}
 use Rattle.xsk_side.specs.Setting.{Setting, size_of, pair_of}
 use Rattle.xsk_side.specs.Entries.{frame, times, strays_in, stands, is_received, is_laid}
-use Rattle.xsk_side.specs.Object.{Entry, RingState, ring_of, ring_at, ring_after, producer, consumer, is_made, Replies}
+use Rattle.xsk_side.specs.Object.{Entry, RingState, ring_of, ring_at, ring_after, consumer, is_made, Replies}
 use Rattle.xsk_side.specs.Own.{put_back, has_frame, source_of, strays_taken}
-use Rattle.xsk_side.specs.Legal.{IsLegal, HasRole, IsReceived, IsCompleted, MayCome}
+use Rattle.xsk_side.specs.Legal.{IsLegal, IsReceived, IsCompleted, MayCome}
 use Rattle.xsk_side.specs.Possible.{IsHistory, own}
 use Rattle.xsk_side.specs.Local.{given_of, back_of, back_after}
 use Rattle.xsk_side.specs.declared.call.Party.{Party}
@@ -24,7 +24,7 @@ use Rattle.xsk_side.specs.declared.call.Call.{Call}
 use Rattle.xsk_side.specs.declared.call.Call.TheVariants.{Reserve, Free, Submit, Peek, Release, Cancel}
 use Rattle.xsk_side.proofs.Lists.{number, times-append, times-split, times-front, times-some, length-front}
 use Rattle.xsk_side.proofs.Rings.{entry, same_or, ring_here, ring_else, is_true, is_false, rings_sound}
-use Rattle.xsk_side.proofs.Frames.{IsFrameSound, frames_sound, few_put_back, out_put_back, other_way, positive}
+use Rattle.xsk_side.proofs.Frames.{IsFrameSound, frames_sound, few_put_back, out_put_back, positive}
 use Rattle.xsk_side.proofs.Bounds.{made_producer, made_consumer, unmade_producer, unmade_consumer, two_parties, made_out}
 
 -- ---- entries that may come, where frames came from the same rings
@@ -40,15 +40,15 @@ pub comes_as : (s : Setting) (from from' : ℕ → Option Ring) (strays : ℕ) (
     → ((f : ℕ) (q : Ring) → 1 ≤ times s f es → from f ≡ Some q → from' f ≡ Some q) → MayCome s from strays r es → MayCome s from' strays r es
 comes_as s from from' strays (Fill d) es same h = tt
 comes_as s from from' strays (Comp d) es same h = (
-      λ k x l.
-        let c = h.0 k x l in
-        record {
-          len = c.len;
-          options = c.options;
-          sent = λ inside. let sent = c.sent inside in (sent.0, same (frame s (get_or es k x)) (Tx sent.0) (times-some s es k x l inside) sent.1, sent.2);
-        },
-      h.1,
-    )
+  λ k x l.
+      let c = h.0 k x l in
+      record {
+        len = c.len;
+        options = c.options;
+        sent = λ inside. let sent = c.sent inside in (sent.0, same (frame s (get_or es k x)) (Tx sent.0) (times-some s es k x l inside) sent.1, sent.2);
+      },
+  h.1,
+)
 comes_as s from from' strays (Rx k) es same h = λ i x l.
     let c = h i x l in
     record {
@@ -126,7 +126,6 @@ pub record IsRestSound (s : Setting) (given : ℕ → Option Ring) (r : Ring) (b
   pub front : back ≡ take (length back) out
   pub again : (f : ℕ) → 1 ≤ times s f back → given f ≡ None
   pub comes : Comes s given r (drop (length back) out)
-
 
 pub record IsGivenSound (s : Setting) (h : List Entry) : Type 0 where
   pub had : (f : ℕ) → has_frame s f (own Program h) ≡ true → given_of s (own Program h) f ≡ None
@@ -235,9 +234,9 @@ taken_step s past Kernel (Submit r es) f q legal shown sound given is = given.ta
     not_gone false source q h = h
 taken_step s past Kernel (Peek r n es) f q legal shown sound given is = ⊎_elim
     (λ (some : 1 ≤ times s f es).
-      given.made f r (shown_made r legal.role) (omega (arith, some, times-front s f es (ring_at r past).out shown))
-      ∙ sym (some_stand (times s f es) (Some r) (source_of s (own Kernel past) f) some)
-      ∙ is)
+    given.made f r (shown_made r legal.role) (omega (arith, some, times-front s f es (ring_at r past).out shown))
+    ∙ sym (some_stand (times s f es) (Some r) (source_of s (own Kernel past) f) some)
+    ∙ is)
     (λ (none : times s f es ≡ 0). given.taken f q (sym (no_stand (times s f es) (Some r) (source_of s (own Kernel past) f) none) ∙ is))
     (some_or_none (times s f es))
   where
@@ -260,8 +259,8 @@ made_here s past Program (Free r n places) f made legal shown sound given some =
 made_here s past Program (Submit r es) f made legal shown sound given some = ⊎_elim
     (λ (here : 1 ≤ times s f es). some_stand (times s f es) (Some r) (given_of s (own Program past) f) here)
     (λ (none : times s f es ≡ 0).
-      no_stand (times s f es) (Some r) (given_of s (own Program past) f) none
-      ∙ given.made f r made (omega (arith, some, none, times-append s f (ring_at r past).out es)))
+    no_stand (times s f es) (Some r) (given_of s (own Program past) f) none
+    ∙ given.made f r made (omega (arith, some, none, times-append s f (ring_at r past).out es)))
     (some_or_none (times s f es))
 made_here s past Program (Peek r n es) f made legal shown sound given some = absurd (two_parties (sym (legal.role ∙ made_consumer r made)))
 made_here s past Program (Release r n) f made legal shown sound given some = absurd (two_parties (sym (legal.role ∙ made_consumer r made)))
@@ -280,12 +279,12 @@ made_step : (s : Setting) (past : List Entry) (who : Party) (call : Call) (f : �
     → given_of s (own Program (entry who call ∷ past)) f ≡ Some r
 made_step s past who call f r made legal shown sound given some = ⊎_elim
     (λ (e : r ≡ ring_of call).
-      made_here s past who call f (subst (λ x. is_made x ≡ true) e made) legal shown sound given
-        (subst (λ (ring : RingState). 1 ≤ times s f ring.out) (ap (λ x. ring_at x (entry who call ∷ past)) e ∙ ring_here past who call) some)
-      ∙ ap Some (sym e))
+    made_here s past who call f (subst (λ x. is_made x ≡ true) e made) legal shown sound given
+    (subst (λ (ring : RingState). 1 ≤ times s f ring.out) (ap (λ x. ring_at x (entry who call ∷ past)) e ∙ ring_here past who call) some)
+    ∙ ap Some (sym e))
     (λ (off : is_ring r (ring_of call) ≡ false).
-      let before : 1 ≤ times s f (ring_at r past).out = subst (λ (ring : RingState). 1 ≤ times s f ring.out) (ring_else r past who call off) some in
-      given_else s past who call f r legal shown sound off before ∙ given.made f r made before)
+    let before : 1 ≤ times s f (ring_at r past).out = subst (λ (ring : RingState). 1 ≤ times s f ring.out) (ring_else r past who call off) some in
+    given_else s past who call f r legal shown sound off before ∙ given.made f r made before)
     (same_or r (ring_of call))
 
 -- ---- it stands on RX or COMPLETION
@@ -297,7 +296,7 @@ rest_as s given given' r back out same h = record {
   front = h.front;
   again = λ f some. same f (omega (arith, some, times-front s f back out h.front)) ∙ h.again f some;
   comes = comes_as s given given' (strays_in s (drop (length back) out)) r (drop (length back) out)
-    (λ f q some is. same f (omega (arith, some, times-split s f (length back) out)) ∙ is) h.comes;
+      (λ f q some is. same f (omega (arith, some, times-split s f (length back) out)) ∙ is) h.comes;
 }
 
 -- entries are shown, and the frames behind them are given as before
@@ -310,10 +309,10 @@ rest_shown s given given' r back out es shown same h =
     record {
       front = front;
       again = λ f some. same f (omega (arith, some, times-front s f left_back left front))
-        ∙ h.again f (omega (arith, some, times-split s f (length es) back));
+          ∙ h.again f (omega (arith, some, times-split s f (length es) back));
       comes = comes_as s given given' (strays_in s (drop (length left_back) left)) r (drop (length left_back) left)
-        (λ f q some is. same f (omega (arith, some, times-split s f (length left_back) left)) ∙ is)
-        (subst (λ xs. Comes s given r xs) (sym (behind-drop (length es) back out)) (comes-drop s given r (length es - length back) (drop (length back) out) h.comes));
+          (λ f q some is. same f (omega (arith, some, times-split s f (length left_back) left)) ∙ is)
+          (subst (λ xs. Comes s given r xs) (sym (behind-drop (length es) back out)) (comes-drop s given r (length es - length back) (drop (length back) out) h.comes));
     }
 
 -- entries are put back
@@ -322,7 +321,7 @@ rest_back : (s : Setting) (given : ℕ → Option Ring) (r : Ring) (back out mor
 rest_back s given r back out more none h = record {
   front = front-append more back out h.front;
   again = λ f some. ⊎_elim (λ (a : 1 ≤ times s f more). none f a) (λ (b : 1 ≤ times s f back). h.again f b)
-    (positive (times s f more) (times s f back) (omega (arith, some, times-append s f more back)));
+      (positive (times s f more) (times s f back) (omega (arith, some, times-append s f more back)));
   comes = subst (λ xs. Comes s given r xs) (sym (behind-append more back out)) h.comes;
 }
 
@@ -359,22 +358,22 @@ back_else s past Kernel call r off = refl
 rest_here : (s : Setting) (past : List Entry) (who : Party) (call : Call) → IsHistory s past → is_made (ring_of call) ≡ false
     → IsLegal s who (own who past) call → IsShown past call → ((f : ℕ) → IsFrameSound s past f) → IsGivenSound s past
     → IsRestSound s (given_of s (own Program (entry who call ∷ past))) (ring_of call)
-      (back_by who s past (back_of s (ring_of call) (own Program past)) call) (ring_after (ring_at (ring_of call) past) call).out
+    (back_by who s past (back_of s (ring_of call) (own Program past)) call) (ring_after (ring_at (ring_of call) past) call).out
 rest_here s past Program (Reserve r n answer) history made legal shown sound given = given.rest r made
 rest_here s past Program (Free r n places) history made legal shown sound given = given.rest r made
 rest_here s past Program (Submit r es) history made legal shown sound given = absurd (two_parties (sym (legal.role ∙ unmade_producer r made)))
 rest_here s past Program (Peek r n es) history made legal shown sound given =
     let out = (ring_at r past).out in
     rest_shown s (given_of s (own Program past)) (given_of s (own Program (entry Program (Peek r n es) ∷ past))) r (back_of s r (own Program past)) out es shown
-      (λ f some. no_stand (times s f es) None (given_of s (own Program past) f) (omega (arith, some, times-front s f es out shown, (sound f).place.alone r)))
-      (given.rest r made)
+    (λ f some. no_stand (times s f es) None (given_of s (own Program past) f) (omega (arith, some, times-front s f es out shown, (sound f).place.alone r)))
+    (given.rest r made)
 rest_here s past Program (Release r n) history made legal shown sound given = given.rest r made
 rest_here s past Program (Cancel r n) history made legal shown sound given =
     let mine = own Program past in
     subst (λ xs. IsRestSound s (given_of s mine) r (put_back s mine r n ++ back_of s r mine) xs) (sym (out_put_back s past r n made (rings_sound s past history r)))
-      (rest_back s (given_of s mine) r (back_of s r mine) (ring_at r past).out (put_back s mine r n)
-        (λ f some. given.had f (one_has (has_frame s f mine) (omega (arith, some, few_put_back s past f r n (sound f) legal.untouched))))
-        (given.rest r made))
+    (rest_back s (given_of s mine) r (back_of s r mine) (ring_at r past).out (put_back s mine r n)
+    (λ f some. given.had f (one_has (has_frame s f mine) (omega (arith, some, few_put_back s past f r n (sound f) legal.untouched))))
+    (given.rest r made))
   where
     one_has : (b : Bool) → 1 ≤ number b → b ≡ true
     one_has true h = refl
@@ -384,8 +383,8 @@ rest_here s past Kernel (Free r n places) history made legal shown sound given =
 rest_here s past Kernel (Submit r es) history made legal shown sound given =
     let strays = strays_taken s (pair_of s r) (own Kernel past) in
     rest_put s (given_of s (own Program past)) strays r (back_of s r (own Program past)) (ring_at r past).out es
-      (comes_as s (source_of s (own Kernel past)) (given_of s (own Program past)) strays r es (λ f q some is. given.taken f q is) legal.put)
-      (given.rest r made)
+    (comes_as s (source_of s (own Kernel past)) (given_of s (own Program past)) strays r es (λ f q some is. given.taken f q is) legal.put)
+    (given.rest r made)
 rest_here s past Kernel (Peek r n es) history made legal shown sound given = absurd (two_parties (legal.role ∙ unmade_consumer r made))
 rest_here s past Kernel (Release r n) history made legal shown sound given = given.rest r made
 rest_here s past Kernel (Cancel r n) history made legal shown sound given = absurd (two_parties legal.role)
@@ -396,19 +395,19 @@ rest_step : (s : Setting) (past : List Entry) (who : Party) (call : Call) (r : R
 rest_step s past who call r history made legal shown sound given =
     let now = own Program (entry who call ∷ past) in
     ⊎_elim
-      (λ (e : r ≡ ring_of call).
-        let q = ring_of call in
-        subst (λ x. IsRestSound s (given_of s now) x (back_of s x now) (ring_at x (entry who call ∷ past)).out) (sym e)
-          (subst (λ back. IsRestSound s (given_of s now) q back (ring_at q (entry who call ∷ past)).out) (sym (back_here s past who call))
-            (subst (λ (ring : RingState). IsRestSound s (given_of s now) q (back_by who s past (back_of s q (own Program past)) call) ring.out) (sym (ring_here past who call))
-              (rest_here s past who call history (subst (λ x. is_made x ≡ false) e made) legal shown sound given))))
-      (λ (off : is_ring r (ring_of call) ≡ false).
-        subst (λ back. IsRestSound s (given_of s now) r back (ring_at r (entry who call ∷ past)).out) (sym (back_else s past who call r off))
-          (subst (λ (ring : RingState). IsRestSound s (given_of s now) r (back_of s r (own Program past)) ring.out) (sym (ring_else r past who call off))
-            (rest_as s (given_of s (own Program past)) (given_of s now) r (back_of s r (own Program past)) (ring_at r past).out
-              (λ f some. given_else s past who call f r legal shown (sound f) off some)
-              (given.rest r made))))
-      (same_or r (ring_of call))
+    (λ (e : r ≡ ring_of call).
+    let q = ring_of call in
+    subst (λ x. IsRestSound s (given_of s now) x (back_of s x now) (ring_at x (entry who call ∷ past)).out) (sym e)
+    (subst (λ back. IsRestSound s (given_of s now) q back (ring_at q (entry who call ∷ past)).out) (sym (back_here s past who call))
+    (subst (λ (ring : RingState). IsRestSound s (given_of s now) q (back_by who s past (back_of s q (own Program past)) call) ring.out) (sym (ring_here past who call))
+    (rest_here s past who call history (subst (λ x. is_made x ≡ false) e made) legal shown sound given))))
+    (λ (off : is_ring r (ring_of call) ≡ false).
+    subst (λ back. IsRestSound s (given_of s now) r back (ring_at r (entry who call ∷ past)).out) (sym (back_else s past who call r off))
+    (subst (λ (ring : RingState). IsRestSound s (given_of s now) r (back_of s r (own Program past)) ring.out) (sym (ring_else r past who call off))
+    (rest_as s (given_of s (own Program past)) (given_of s now) r (back_of s r (own Program past)) (ring_at r past).out
+    (λ f some. given_else s past who call f r legal shown (sound f) off some)
+    (given.rest r made))))
+    (same_or r (ring_of call))
 
 pub given_sound : (s : Setting) (h : List Entry) → IsHistory s h → IsGivenSound s h
 given_sound s [] legal = record {

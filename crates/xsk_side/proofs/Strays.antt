@@ -1,6 +1,6 @@
 -- Addresses that name no frame: those that were submitted on TX of a pair and haven't come stand on TX, are the kernel's, or stand on
 -- COMPLETION.
-use Rattle.std.proofs.Common.{◌≡◌, ◌≢◌, ℕ, zero, suc, ◌+◌, ◌-◌, ◌<◌, ◌≤◌, Bool, true, false, cond, List, [], ◌∷◌, ◌++◌, length, take, drop, refl, sym, ap, ◌∙◌, subst, arith, length-drop, ⊎_elim, ne_eqb}
+use Rattle.std.proofs.Common.{◌≡◌, ◌≢◌, ℕ, zero, suc, ◌+◌, ◌-◌, ◌<◌, ◌≤◌, Bool, true, false, cond, List, [], ◌∷◌, ◌++◌, length, take, drop, refl, sym, ap, ◌∙◌, subst, arith, ⊎_elim, ne_eqb}
 use Rattle.std.proofs.lemmas.Bool.{cases_eq}
 use Rattle.std.proofs.lemmas.List.{drop-append-le}
 use Rattle.xsk_umem.specs.declared.batch.XdpDesc.{XdpDesc}
@@ -10,7 +10,7 @@ use Rattle.xsk_model.specs.Rings.{is_ring}
 use Rattle.xsk_model.proofs.Places.{is_ring-self}
 use Rattle.xsk_side.specs.Setting.{Setting, HasRing, size_of, pair_of}
 use Rattle.xsk_side.specs.Entries.{strays_in}
-use Rattle.xsk_side.specs.Object.{Entry, RingState, ring_of, ring_at, ring_after, producer, consumer, is_made, Replies}
+use Rattle.xsk_side.specs.Object.{Entry, RingState, ring_of, ring_at, ring_after, producer, consumer, is_made}
 use Rattle.xsk_side.specs.Own.{put_back, source_of, is_tx_of, strays_taken}
 use Rattle.xsk_side.specs.Legal.{IsLegal, MayCome}
 use Rattle.xsk_side.specs.Possible.{IsHistory, own}
@@ -22,8 +22,8 @@ use Rattle.xsk_side.specs.declared.call.Call.TheVariants.{Reserve, Free, Submit,
 use Rattle.xsk_side.proofs.Lists.{strays-append, strays-split, strays-front, length-front}
 use Rattle.xsk_side.proofs.Rings.{entry, same_or, ring_here, ring_else, is_true, is_false, rings_sound}
 use Rattle.xsk_side.proofs.Frames.{out_put_back}
-use Rattle.xsk_side.proofs.Bounds.{made_producer, made_consumer, unmade_producer, unmade_consumer, two_parties, made_out}
-use Rattle.xsk_side.proofs.Given.{IsShown, is_shown, IsRestSound, given_sound, behind, behind-append, behind-drop, back_by, back_here, back_else}
+use Rattle.xsk_side.proofs.Bounds.{unmade_producer, unmade_consumer, two_parties}
+use Rattle.xsk_side.proofs.Given.{IsShown, is_shown, given_sound, behind, behind-append, behind-drop, back_by, back_here, back_else}
 
 -- ---- a sum over all sockets
 
@@ -61,16 +61,16 @@ on_tx_moves : (s : Setting) (d : ℕ) (past : List Entry) (who : Party) (call : 
     → on_tx s d (entry who call ∷ past) + part s d q (ring_at q past).out ≡ on_tx s d past + part s d q (ring_at q (entry who call ∷ past)).out
 on_tx_moves s d past who call (Fill c) is has =
     ap (λ k. k + 0) (total_same (λ t. part s d (Tx t) (ring_at (Tx t) past).out) (λ t. part s d (Tx t) (ring_at (Tx t) (entry who call ∷ past)).out) (length s.sockets)
-      (λ t. other_tx s d past who call t (ap (is_ring (Tx t)) is)))
+    (λ t. other_tx s d past who call t (ap (is_ring (Tx t)) is)))
 on_tx_moves s d past who call (Comp c) is has =
     ap (λ k. k + 0) (total_same (λ t. part s d (Tx t) (ring_at (Tx t) past).out) (λ t. part s d (Tx t) (ring_at (Tx t) (entry who call ∷ past)).out) (length s.sockets)
-      (λ t. other_tx s d past who call t (ap (is_ring (Tx t)) is)))
+    (λ t. other_tx s d past who call t (ap (is_ring (Tx t)) is)))
 on_tx_moves s d past who call (Rx k) is has =
     ap (λ k. k + 0) (total_same (λ t. part s d (Tx t) (ring_at (Tx t) past).out) (λ t. part s d (Tx t) (ring_at (Tx t) (entry who call ∷ past)).out) (length s.sockets)
-      (λ t. other_tx s d past who call t (ap (is_ring (Tx t)) is)))
+    (λ t. other_tx s d past who call t (ap (is_ring (Tx t)) is)))
 on_tx_moves s d past who call (Tx i) is has =
     total_one (λ t. part s d (Tx t) (ring_at (Tx t) past).out) (λ t. part s d (Tx t) (ring_at (Tx t) (entry who call ∷ past)).out) (length s.sockets) i has.0
-      (λ t ne. other_tx s d past who call t (ap (is_ring (Tx t)) is ∙ ne_eqb t i ne))
+    (λ t ne. other_tx s d past who call t (ap (is_ring (Tx t)) is ∙ ne_eqb t i ne))
 
 -- ---- a call on another ring than COMPLETION of the pair
 
@@ -87,12 +87,12 @@ part_unmade s d r out out' made =
 tx_moves : (s : Setting) (d : ℕ) (past : List Entry) (who : Party) (call : Call) → is_ring (Comp d) (ring_of call) ≡ false
     → IsLegal s who (own who past) call → IsShown past call
     → strays_given s d (own Program (entry who call ∷ past)) + part s d (ring_of call) (ring_at (ring_of call) past).out + strays_taken s d (own Kernel past)
-      ≡ strays_given s d (own Program past) + part s d (ring_of call) (ring_after (ring_at (ring_of call) past) call).out + strays_taken s d (own Kernel (entry who call ∷ past))
+    ≡ strays_given s d (own Program past) + part s d (ring_of call) (ring_after (ring_at (ring_of call) past) call).out + strays_taken s d (own Kernel (entry who call ∷ past))
 tx_moves s d past Program (Reserve r n answer) off legal shown = refl
 tx_moves s d past Program (Free r n places) off legal shown = refl
 tx_moves s d past Program (Submit r es) off legal shown =
     adds (is_tx_of s d r) (strays_given s d (own Program past)) (strays_in s es) (strays_in s (ring_at r past).out) (strays_in s ((ring_at r past).out ++ es)) (strays_taken s d (own Kernel past))
-      (strays-append s (ring_at r past).out es)
+    (strays-append s (ring_at r past).out es)
   where
     adds : (b : Bool) (g n o o' k : ℕ) → o' ≡ o + n → ◌≡◌ {A = ℕ} (cond b (g + n) g + cond b o 0 + k) (g + cond b o' 0 + k)
     adds true g n o o' k h = omega (arith, h)
@@ -132,7 +132,7 @@ tx_moves s d past Kernel (Submit r es) off legal shown =
     unmade_by (Tx k) h = absurd (cc)
 tx_moves s d past Kernel (Peek r n es) off legal shown =
     takes (is_tx_of s d r) (strays_taken s d (own Kernel past)) (strays_in s es) (strays_in s (ring_at r past).out) (strays_in s (drop (length es) (ring_at r past).out)) (strays_given s d (own Program past))
-      (strays-front s es (ring_at r past).out shown)
+    (strays-front s es (ring_at r past).out shown)
   where
     takes : (b : Bool) (k n o o' g : ℕ) → n + o' ≡ o → ◌≡◌ {A = ℕ} (g + cond b o 0 + k) (g + cond b o' 0 + cond b (k + n) k)
     takes true k n o o' g h = omega (arith, h)
@@ -156,6 +156,7 @@ drop-front (suc a) (e ∷ es) (x ∷ out) h = drop-front a es out (tail_same e x
   where
     tail_same : (x y : XdpDesc) (xs ys : List XdpDesc) → x ∷ xs ≡ y ∷ ys → xs ≡ ys
     tail_same x y xs ys h = cc
+
     less : (n a : ℕ) → n - a ≡ suc n - suc a
     less n a = omega arith
 
@@ -171,8 +172,8 @@ comp_moves : (s : Setting) (d : ℕ) (past : List Entry) (who : Party) (call : C
     → IsLegal s who (own who past) call → IsShown past call
     → strays_in s (behind s past (ring_of call)) ≤ strays_given s d (own Program past)
     → strays_given s d (own Program (entry who call ∷ past)) + strays_taken s d (own Kernel past) + strays_in s (behind s past (ring_of call))
-      ≡ strays_given s d (own Program past) + strays_taken s d (own Kernel (entry who call ∷ past))
-        + strays_in s (drop (length (back_by who s past (back_of s (ring_of call) (own Program past)) call)) (ring_after (ring_at (ring_of call) past) call).out)
+    ≡ strays_given s d (own Program past) + strays_taken s d (own Kernel (entry who call ∷ past))
+    + strays_in s (drop (length (back_by who s past (back_of s (ring_of call) (own Program past)) call)) (ring_after (ring_at (ring_of call) past) call).out)
 comp_moves s d past Program (Reserve r n answer) is history legal shown few = refl
 comp_moves s d past Program (Free r n places) is history legal shown few = refl
 comp_moves s d past Program (Submit r es) is history legal shown few =
@@ -218,6 +219,7 @@ strays_sound s d [] legal = omega (arith, none s d (length s.sockets))
     nothing : (b : Bool) → ◌≡◌ {A = ℕ} (cond b 0 0) 0
     nothing true = refl
     nothing false = refl
+
     none : (s : Setting) (d n : ℕ) → total (λ t. cond (is_tx_of s d (Tx t)) (strays_in s (ring_at (Tx t) []).out) 0) n ≡ 0
     none s d zero = refl
     none s d (suc n) = omega (arith, none s d n, nothing (is_tx_of s d (Tx n)))
@@ -228,29 +230,29 @@ strays_sound s d (e ∷ past) legal =
     let moves = on_tx_moves s d past e.who e.call q refl legal.1.known in
     let now = ap (λ (ring : RingState). ring.out) (ring_here past e.who e.call) in
     ⊎_elim
-      (λ (is : Comp d ≡ q).
-        let same : strays_in s (behind s past q) ≡ strays_in s (behind s past (Comp d)) = ap (λ x. strays_in s (behind s past x)) (sym is) in
-        let here : strays_in s (behind s (e ∷ past) (Comp d)) ≡ strays_in s (drop (length (back_by e.who s past (back_of s q (own Program past)) e.call)) (ring_after (ring_at q past) e.call).out)
-          = ap (λ x. strays_in s (behind s (e ∷ past) x)) is
-            ∙ ap (λ xs. strays_in s (drop (length xs) (ring_at q (e ∷ past)).out)) (back_here s past e.who e.call)
-            ∙ ap (λ xs. strays_in s (drop (length (back_by e.who s past (back_of s q (own Program past)) e.call)) xs)) now in
-        omega (
-          arith,
-          before,
-          moves,
-          part_unmade s d q (ring_at q past).out (ring_at q (e ∷ past)).out (subst (λ x. is_made x ≡ false) is refl),
-          same,
-          here,
-          comp_moves s d past e.who e.call is legal.0 legal.1 shown (omega (arith, before, same)),
-        ))
-      (λ (off : is_ring (Comp d) q ≡ false).
-        omega (
-          arith,
-          before,
-          moves,
-          tx_moves s d past e.who e.call off legal.1 shown,
-          ap (part s d q) now,
-          ap (λ xs. strays_in s (drop (length xs) (ring_at (Comp d) (e ∷ past)).out)) (back_else s past e.who e.call (Comp d) off),
-          ap (λ (ring : RingState). strays_in s (drop (length (back_of s (Comp d) (own Program past))) ring.out)) (ring_else (Comp d) past e.who e.call off),
-        ))
-      (same_or (Comp d) q)
+    (λ (is : Comp d ≡ q).
+    let same : strays_in s (behind s past q) ≡ strays_in s (behind s past (Comp d)) = ap (λ x. strays_in s (behind s past x)) (sym is) in
+    let here : strays_in s (behind s (e ∷ past) (Comp d)) ≡ strays_in s (drop (length (back_by e.who s past (back_of s q (own Program past)) e.call)) (ring_after (ring_at q past) e.call).out)
+    = ap (λ x. strays_in s (behind s (e ∷ past) x)) is
+    ∙ ap (λ xs. strays_in s (drop (length xs) (ring_at q (e ∷ past)).out)) (back_here s past e.who e.call)
+    ∙ ap (λ xs. strays_in s (drop (length (back_by e.who s past (back_of s q (own Program past)) e.call)) xs)) now in
+    omega (
+      arith,
+      before,
+      moves,
+      part_unmade s d q (ring_at q past).out (ring_at q (e ∷ past)).out (subst (λ x. is_made x ≡ false) is refl),
+      same,
+      here,
+      comp_moves s d past e.who e.call is legal.0 legal.1 shown (omega (arith, before, same)),
+    ))
+    (λ (off : is_ring (Comp d) q ≡ false).
+    omega (
+      arith,
+      before,
+      moves,
+      tx_moves s d past e.who e.call off legal.1 shown,
+      ap (part s d q) now,
+      ap (λ xs. strays_in s (drop (length xs) (ring_at (Comp d) (e ∷ past)).out)) (back_else s past e.who e.call (Comp d) off),
+      ap (λ (ring : RingState). strays_in s (drop (length (back_of s (Comp d) (own Program past))) ring.out)) (ring_else (Comp d) past e.who e.call off),
+    ))
+    (same_or (Comp d) q)
