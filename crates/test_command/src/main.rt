@@ -37,10 +37,13 @@ use std::process::ExitCode;
 use std::rt::Files;
 use std::sync::Wait;
 use std::thread::Threads;
+use xsk_io::FileBay;
+use xsk_program::{answer, words_of};
 
 /// Does what a line says, and tells what is to be printed.
-fn answer<R: Files + Print + Threads + Wait + Sync>(
+fn follow<R: Files + Print + Threads + Wait + Sync>(
     rt: &R,
+    host: &HostRuntime,
     alloc: Global,
     case: &mut Case,
     line: &str,
@@ -50,7 +53,7 @@ fn answer<R: Files + Print + Threads + Wait + Sync>(
         Instruction::Nothing => Ok(()),
         Instruction::Case(name) => begin(alloc, case, name, told),
         Instruction::Run(words) => {
-            run(rt, alloc, case, words, told)?;
+            run(rt, host, alloc, case, words, told)?;
             case.forget();
             Ok(())
         }
@@ -59,7 +62,7 @@ fn answer<R: Files + Print + Threads + Wait + Sync>(
             case.forget();
             Ok(())
         }
-        Instruction::Files(words) => run_over_files(rt, alloc, words, told),
+        Instruction::Files(words) => run_over_files(rt, host, alloc, words, told),
         Instruction::Meaning(words) => meaning(alloc, case, words, told),
         Instruction::Table(words) => meaning_by_small_table(alloc, words, told),
         Instruction::Setting(name, value) => set(alloc, case, name, value, line, told),
@@ -91,30 +94,36 @@ fn set(
 /// Does what a line says, and prints what is told of it.
 fn play_line<R: Files + Print + Threads + Wait + Sync>(
     rt: &R,
+    host: &HostRuntime,
     alloc: Global,
     case: &mut Case,
     line: &str,
 ) -> Result<()> {
     let mut told = String::new(alloc);
-    answer(rt, alloc, case, line, &mut told)?;
+    follow(rt, host, alloc, case, line, &mut told)?;
     print!(rt; "{told}")?;
     Ok(())
 }
 
 /// Does what the lines of standard input say.
-fn play<R: Input + Files + Print + AllocGlobal + Threads + Wait + Sync>(rt: &R) -> Result<()> {
+fn play<R: Input + Files + Print + AllocGlobal + Threads + Wait + Sync>(
+    rt: &R,
+    host: &HostRuntime,
+) -> Result<()> {
     let alloc = rt.alloc();
     let mut case = Case::new(alloc);
     for line in rt.lines(alloc) {
         let line = line?;
-        play_line(rt, alloc, &mut case, line.as_str())?;
+        play_line(rt, host, alloc, &mut case, line.as_str())?;
     }
     Ok(())
 }
 
 fn main(rt: HostRuntime) -> ExitCode {
-    if play(&rt).is_err() {
+    if play(&rt, &rt).is_err() {
         return ExitCode::from(1);
     }
-    ExitCode::from(xsk_program::run(&rt))
+    let mut bay = FileBay::new(&rt);
+    let ended = answer(&rt, rt.alloc(), words_of(&rt), &mut bay);
+    ended.into_exit_code(&rt)
 }
