@@ -1,10 +1,11 @@
-//! Files are copied and refused, a folder fails at its first read, and the report is printed.
+//! Files are copied and refused, what is open already is no output, a folder fails at its first read, and the report is printed.
 ghost use Rattle.xsk_io.specs.Bay.{NoneOpen};
 
 use std::alloc::Global;
 use std::fs;
 use std::fs::Files;
 use std::io::Print;
+use std::os::unix::fs::symlink;
 use xsk_io::{Bay, FileBay, ReadError, Stream, read_whole, write_whole};
 
 /// What is done over a bay of which no stream is open.
@@ -14,6 +15,8 @@ enum Deed<'a> {
     Copy(&'a str, &'a str),
     /// An input is opened, and then read.
     Read(&'a str),
+    /// An input is opened, and two outputs behind it.
+    Open(&'a str, [&'a str; 2]),
     /// A text is reported.
     Report,
 }
@@ -40,12 +43,23 @@ fn read_over<B: Bay>(bay: &mut B, name: &str) -> Result<(), ReadError>
     Ok(())
 }
 
+/// Opens an input, and two outputs behind it.
+fn open_over<B: Bay>(bay: &mut B, from: &str, to: [&str; 2]) -> Result<(), ReadError>
+    requires none_open { NoneOpen (B.moment bay.old) }
+{
+    bay.open(Stream::Input(2), from)?;
+    bay.open(Stream::Output(0), to[0])?;
+    bay.open(Stream::Output(2), to[1])?;
+    Ok(())
+}
+
 fn do_over<B: Bay>(alloc: Global, bay: &mut B, deed: Deed<'_>) -> Result<(), ReadError>
     requires none_open { NoneOpen (B.moment bay.old) }
 {
     match deed {
         Deed::Copy(from, to) => copy_over(alloc, bay, from, to),
         Deed::Read(name) => read_over(bay, name),
+        Deed::Open(from, to) => open_over(bay, from, to),
         Deed::Report => Ok(write_whole(bay, Stream::Report, b"reported\n")?),
     }
 }
@@ -63,6 +77,11 @@ fn copies<R: Files + Print>(rt: &R, alloc: Global, from: &str, to: &str) -> bool
 /// Whether a copy fails with a fault.
 fn fails<R: Files + Print>(rt: &R, alloc: Global, from: &str, to: &str) -> bool {
     done(rt, alloc, Deed::Copy(from, to)) == Err(ReadError::Fault)
+}
+
+/// Whether an input and two outputs can be opened.
+fn opens<R: Files + Print>(rt: &R, alloc: Global, from: &str, to: [&str; 2]) -> bool {
+    done(rt, alloc, Deed::Open(from, to)).is_ok()
 }
 
 /// Whether a file can be made with this text.
@@ -101,6 +120,36 @@ fn what_is_no_file_is_a_fault(rt: HostRuntime) {
     assert!(rt; fails(&rt, rt.alloc(), "given.tmp", "."));
     assert!(rt; fails(&rt, rt.alloc(), "given.tmp", "/dev/full"));
     assert!(rt; copies(&rt, rt.alloc(), "given.tmp", "/dev/stdout"));
+}
+
+#[test]
+fn an_output_that_is_an_input_is_a_fault(rt: HostRuntime) {
+    assert!(rt; makes(&rt, "kept-in.tmp", b"abcde"));
+    assert!(rt; symlink(&rt, "kept-in.tmp", "kept-link.tmp").is_ok());
+    assert!(rt; fs::hard_link(&rt, "kept-in.tmp", "kept-hard.tmp").is_ok());
+    assert!(rt; fails(&rt, rt.alloc(), "kept-in.tmp", "kept-in.tmp"));
+    assert!(rt; fails(&rt, rt.alloc(), "kept-in.tmp", "./kept-in.tmp"));
+    assert!(rt; fails(&rt, rt.alloc(), "kept-in.tmp", "kept-link.tmp"));
+    assert!(rt; fails(&rt, rt.alloc(), "kept-link.tmp", "kept-in.tmp"));
+    assert!(rt; fails(&rt, rt.alloc(), "kept-in.tmp", "kept-hard.tmp"));
+    assert!(rt; holds(&rt, "kept-in.tmp", b"abcde"));
+}
+
+#[test]
+fn an_output_that_is_another_is_a_fault(rt: HostRuntime) {
+    assert!(rt; makes(&rt, "twice-in.tmp", b"abcde"));
+    assert!(rt; makes(&rt, "twice.tmp", b"older"));
+    assert!(rt; symlink(&rt, "twice.tmp", "twice-link.tmp").is_ok());
+    assert!(rt; !opens(&rt, rt.alloc(), "twice-in.tmp", ["twice.tmp", "twice.tmp"]));
+    assert!(rt; !opens(&rt, rt.alloc(), "twice-in.tmp", ["twice.tmp", "twice-link.tmp"]));
+    assert!(rt; !opens(&rt, rt.alloc(), "twice-in.tmp", ["twice-new.tmp", "twice-new.tmp"]));
+    assert!(rt; opens(&rt, rt.alloc(), "twice-in.tmp", ["twice.tmp", "twice-new.tmp"]));
+    assert!(rt; holds(&rt, "twice.tmp", b""));
+}
+
+#[test]
+fn what_is_no_regular_file_may_be_open_twice(rt: HostRuntime) {
+    assert!(rt; opens(&rt, rt.alloc(), "/dev/null", ["/dev/null", "/dev/null"]));
 }
 
 #[test]

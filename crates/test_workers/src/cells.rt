@@ -7,7 +7,7 @@ use crate::texts::{tell_last, tell_number};
 use crate::trouble::Trouble;
 use crate::words::{Line, number, three_numbers, two_numbers};
 use std::alloc::Global;
-use xsk_map::{Miss, redirect};
+use xsk_prog::{Miss, redirect};
 use xsk_model::{Config, Ring};
 use xsk_plain::Plain;
 

@@ -1,0 +1,13 @@
+//! The laws of what is possible, each the contract of a function that does nothing. They are stated in `specs/Laws.antt`.
+
+ghost use Rattle.xsk_side.specs.Laws.{FirstParts, WiderKernels};
+
+/// Where calls are possible, so are the first of them.
+pub fn first_parts()
+    ensures { FirstParts }
+{}
+
+/// Where a kernel is bound less, all that was possible still is.
+pub fn wider_kernels()
+    ensures { WiderKernels }
+{}
