@@ -4,7 +4,7 @@
 //! `wire`, `mangle`, `after`, `frame`: see the modules), a line that says what is played, and what goes on with it:
 //!
 //! - `driver PAIR PACKETS BYTES` and `app NUMBER`: a worker by hand. Each further line is a reply to its last call, in the
-//!   form of the journal, or a question (`parked`, `disposals`, `sent`, `room`). Each call is printed with its reply as the
+//!   form of the journal, or a question (`parked`, `disposals`, `counters`, `sent`, `room`). Each call is printed with its reply as the
 //!   journal has it, and the last one, which got none, with `?`. A line `frames` prints the frames that the worker has, and ends
 //!   the script. A line `asked` before it prints how often the driver's program was asked.
 //! - `run ORDER`: all workers in rounds, with what came of it. A further line `journal` prints all calls, and `find TEXT`
