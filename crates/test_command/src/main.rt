@@ -36,6 +36,7 @@ use std::thread::Threads;
 /// Does what a line says, and tells what is to be printed.
 fn answer<R: Threads + Wait + Sync>(
     rt: &R,
+    host: &HostRuntime,
     alloc: Global,
     case: &mut Case,
     line: &str,
@@ -45,7 +46,7 @@ fn answer<R: Threads + Wait + Sync>(
     match name {
         "" | "#" => Ok(()),
         "case" => begin(alloc, case, rest, told),
-        "run" => run(rt, alloc, case, rest, told),
+        "run" => run(rt, host, alloc, case, rest, told),
         "alone" => run_alone(alloc, case, rest, told),
         "meaning" => meaning(alloc, case, rest, told),
         "table" => meaning_by_small_table(alloc, rest, told),
@@ -78,29 +79,33 @@ fn set(
 /// Does what a line says, and prints what is told of it.
 fn play_line<R: Print + Threads + Wait + Sync>(
     rt: &R,
+    host: &HostRuntime,
     alloc: Global,
     case: &mut Case,
     line: &str,
 ) -> Result<()> {
     let mut told = String::new(alloc);
-    answer(rt, alloc, case, line, &mut told)?;
+    answer(rt, host, alloc, case, line, &mut told)?;
     print!(rt; "{told}")?;
     Ok(())
 }
 
-/// Does what the lines of standard input say.
-fn play<R: Input + Print + AllocGlobal + Threads + Wait + Sync>(rt: &R) -> Result<()> {
+/// Does what the lines of standard input say. What a run on threads shows is given up by the host's runtime.
+fn play<R: Input + Print + AllocGlobal + Threads + Wait + Sync>(
+    rt: &R,
+    host: &HostRuntime,
+) -> Result<()> {
     let alloc = rt.alloc();
     let mut case = Case::new(alloc);
     for line in rt.lines(alloc) {
         let line = line?;
-        play_line(rt, alloc, &mut case, line.as_str())?;
+        play_line(rt, host, alloc, &mut case, line.as_str())?;
     }
     Ok(())
 }
 
 fn main(rt: HostRuntime) -> ExitCode {
-    match play(&rt) {
+    match play(&rt, &rt) {
         Ok(()) => ExitCode::SUCCESS,
         Err(_) => ExitCode::FAILURE,
     }

@@ -28,6 +28,7 @@ struct Told {
 /// forgotten.
 pub(crate) fn run<R: Threads + Wait + Sync>(
     rt: &R,
+    host: &HostRuntime,
     alloc: Global,
     case: &mut Case,
     line: &str,
@@ -35,20 +36,21 @@ pub(crate) fn run<R: Threads + Wait + Sync>(
 ) -> Result<()> {
     writeln!(told, "> {line}")?;
     let words = words_of(alloc, line)?;
-    run_words(rt, alloc, case, words.as_slice(), told)?;
+    run_words(rt, host, alloc, case, words.as_slice(), told)?;
     case.forget();
     Ok(())
 }
 
 fn run_words<R: Threads + Wait + Sync>(
     rt: &R,
+    host: &HostRuntime,
     alloc: Global,
     case: &Case,
     words: &[String],
     told: &mut String,
 ) -> Result<()> {
     let mut bay = bay_of(alloc, case)?;
-    let ended = run_held(rt, alloc, case, words, &mut bay, told)?;
+    let ended = run_held(rt, host, alloc, case, words, &mut bay, told)?;
     show(alloc, case, ended.status, ended.shown, &bay, told)?;
     Ok(())
 }
@@ -56,6 +58,7 @@ fn run_words<R: Threads + Wait + Sync>(
 /// Runs a command over the gate of a case.
 fn run_held<R: Threads + Wait + Sync, B: Bay>(
     rt: &R,
+    host: &HostRuntime,
     alloc: Global,
     case: &Case,
     words: &[String],
@@ -65,7 +68,7 @@ fn run_held<R: Threads + Wait + Sync, B: Bay>(
     requires { NoneOpen (B.moment bay.old) }
 {
     let gate = RunGate::of(case.next.holds)?;
-    let ended = through(rt, alloc, words, bay, &gate);
+    let ended = through(rt, host, alloc, words, bay, &gate);
     gate.tell(told)?;
     Ok(ended)
 }
@@ -135,6 +138,7 @@ fn bay_of(alloc: Global, case: &Case) -> Result<MemoryBay>
 
 fn through<R: Threads + Wait + Sync, B: Bay, G: Gate + Sync>(
     rt: &R,
+    host: &HostRuntime,
     alloc: Global,
     words: &[String],
     bay: &mut B,
@@ -145,7 +149,7 @@ fn through<R: Threads + Wait + Sync, B: Bay, G: Gate + Sync>(
     let Ended { status, outcome } = xsk_cli::run(rt, alloc, words, bay, gate);
     Told {
         status,
-        shown: shown_by(outcome),
+        shown: shown_by(host, outcome),
     }
 }
 
@@ -156,12 +160,12 @@ fn alone<B: Bay>(alloc: Global, words: &[String], bay: &mut B) -> Status
 }
 
 /// What a run on threads shows, which is given up.
-fn shown_by(outcome: Option<ThreadRun>) -> Shown {
+fn shown_by(host: &HostRuntime, outcome: Option<ThreadRun>) -> Shown {
     let Some(run) = outcome else {
         return Shown::Nothing;
     };
     let calls = run.figures().calls;
-    run.give_up();
+    run.give_up(host);
     if calls == 0 {
         Shown::NoCalls
     } else {

@@ -184,9 +184,9 @@ impl<'a> Bench<'a> {
         self.play.checked.lines()
     }
 
-    /// What the driver of a pair sent so far, with the packets that it bounced; a packet whose frames its next call gives back
-    /// counts as sent, and one that its next call bounces doesn't yet. There is none where there is no such pair, or it sent more
-    /// than there was room for.
+    /// What the driver of a pair sent so far, with the packets that it bounced; its next call counts as made, so a packet whose frames
+    /// it gives back counts as sent, and one that it bounces. There is none where there is no such pair, or it sent more than there
+    /// was room for.
     pub fn sent(&self, pair: u32) -> Option<&PacketList>
         ensures none { length self.now.seats.items ≤ pair → IsNone result }
         ensures sent { (s : Setting) (frames : List Frame) (h : List Entry) (seat : ASeat) → HasPlayed s frames h self.now → slice_get self.now.seats.items pair ≡ Some seat

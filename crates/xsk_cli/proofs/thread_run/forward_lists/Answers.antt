@@ -10,7 +10,7 @@ use Rattle.xsk_cli.proofs.Going.{are_exact_by}
 use Rattle.xsk_workers.specs.Hands.{SuitHands}
 use Rattle.xsk_cli.specs.Forward.{unmangled}
 use Rattle.xsk_cli.proofs.Running.{forwarded_as, hands_suit, pairs_are}
-use Rattle.xsk_cli.proofs.shown.forward_lists.Goals as goal
+use Rattle.xsk_cli.proofs.thread_run.forward_lists.Goals as goal
 
 pub chain_of-requires-clause-sockets : goal.chain_of-requires-clause-sockets
 chain_of-requires-clause-sockets g c =

@@ -3,7 +3,7 @@ use Rattle.xsk_pcap.specs.Written.{IsWritable}
 use Rattle.xsk_pcap.proofs.LaidRecords.{laid_written}
 use Rattle.xsk_workers.specs.Forwarded.{OutcomeShown}
 use Rattle.xsk_cli.specs.Outcome.{capture_of}
-use Rattle.xsk_cli.proofs.leaves.ThreadRunLeaves.lay.Goals as goal
+use Rattle.xsk_cli.proofs.thread_run.ThreadRunLeaves.lay.Goals as goal
 
 pub returns : goal.returns
 returns c =
