@@ -6,7 +6,7 @@ use crate::told::Told;
 use crate::words::{Place, place_of};
 use xsk_model::placement::{has_mark, has_ring};
 use xsk_model::{Config, Mark, Ring};
-use xsk_words::{entry_words, mark_word, marks_base, ring_base, word_count};
+use xsk_table::{entry_words, mark_word, marks_base, ring_base, word_count};
 
 pub fn answer(
     config: &Config,

@@ -369,12 +369,12 @@ module _ {F : Type 0} (g : Shared F (Bor (List ℕ) × (ℕ × Unit {0})) Verdic
       let s : Setting = setting_by c wire manner own verdicts in
       subst (λ rules. IsRuled rules s) are_rules (asked_ruled g chain s asked)
 
-  pub ended_under : (run : Shown) → HasEndedUnder g chain wire manner c own fs order run → HasEnded (setting_of layout programs wire manner lists) (frames_of layout) order run
-  ended_under run under = ended_as layout programs wire manner order c own fs lists run is_config is_own is_frames under.verdicts (ruled under.verdicts under.asked) under.ended
+  pub ended_under : (after : List (XdpProgram F)) (run : Shown) → HasEndedUnder g chain after wire manner c own fs order run → HasEnded (setting_of layout programs wire manner lists) (frames_of layout) order run
+  ended_under after run under = ended_as layout programs wire manner order c own fs lists run is_config is_own is_frames under.verdicts (ruled under.verdicts under.asked) under.ended
 
   -- and so one fails
-  pub failed_under : (error : SimError) → ((round : ℕ) → error ≡ HasNoEnd round → HasStalledUnder g chain wire manner c own fs order round) → FailsRunning layout programs wire manner order lists (sim_failure error)
-  failed_under (HasNoEnd round) stalled =
+  pub failed_under : (after : List (XdpProgram F)) (error : SimError) → ((round : ℕ) → error ≡ HasNoEnd round → HasStalledUnder g chain after wire manner c own fs order round) → FailsRunning layout programs wire manner order lists (sim_failure error)
+  failed_under after (HasNoEnd round) stalled =
       let under = stalled round refl in
       stalled_as layout programs wire manner order c own fs lists round is_config is_own is_frames under.verdicts (ruled under.verdicts under.asked) under.stalled
-  failed_under RunMemory stalled = tt
+  failed_under after RunMemory stalled = tt

@@ -6,7 +6,7 @@ use Rattle.std.specs.Result.{result_ok}
 use Rattle.std.proofs.lemmas.Bool.{cases_eq, cases_lt, eq-eqb, ne_eqb, lt-ltb, le-ltb, le-leb, lt-leb, eqb-false}
 use Rattle.xsk_model.specs.Config.{Config, socket_at, classes_of, batch_of, map_of}
 use Rattle.xsk_model.specs.Steering.{packet_limit, socket_on}
-use Rattle.xsk_map.specs.declared.cell.Miss.TheVariants.{EmptyCell, OtherQueue}
+use Rattle.xsk_prog.specs.declared.cell.Miss.TheVariants.{EmptyCell, OtherQueue}
 use Rattle.xsk_prog.specs.declared.rule.Verdict.{Verdict}
 use Rattle.xsk_prog.specs.declared.rule.Verdict.TheVariants.{Drop, Pass, Redirect, Bounce}
 use Rattle.xsk_turns.specs.Turns.{Seat, Judged, settled_or, redirect_to, limit_of}

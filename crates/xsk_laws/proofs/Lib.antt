@@ -1,3 +1,6 @@
+pub mod Reasons
+pub mod Asking
+pub mod LostForReason
 pub mod Emptied
 pub mod LastCalls
 pub mod Passed

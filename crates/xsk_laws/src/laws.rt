@@ -1,10 +1,11 @@
 //! The laws of all workers' runs, each the contract of a function that does nothing. They are stated in `specs/Laws.antt`
-//! and `specs/Lost.antt`, of whole runs, in `specs/Woken.antt`, of all runs, and in `specs/Closed.antt`, of a socket that is closed.
+//! and `specs/Lost.antt`, of whole runs, in `specs/Reasons.antt`, of why a wire that drops loses a packet, in `specs/Woken.antt`, of all runs, and in `specs/Closed.antt`, of a socket that is closed.
 
 ghost use Rattle.xsk_laws.specs.Laws.{SentIsForwarded, SentIsExpected, BouncedAsSaid, OnlyCompleted, AllAreForwarded, NothingElseIsSent, CompletedAreForwarded, CompletedAreExpected, AllIsForwarded, AllIsExpected, NoneAreStranded, AllAreBoth, SentIsWithin, LeavesOnce, AllIsWithin, ExpectedIsOther};
 ghost use Rattle.xsk_laws.specs.Closed.{NothingBehindClosing, ClosedIsEmpty, AllComeHome, FirstAreSent};
 ghost use Rattle.xsk_laws.specs.Cut.{NothingIsCut, SentIsForwardedUntil, SentIsExpectedUntil};
 ghost use Rattle.xsk_laws.specs.Lost.{ForwardedIsUnlost, OnlyRedirectedAreLost};
+ghost use Rattle.xsk_laws.specs.Reasons.{LosesForReason, LosesForReasonInHistories, LostForReason, LostForReasonInRuns};
 ghost use Rattle.xsk_laws.specs.Woken.{NoWakesAreLost, NoHandLosesWakes, NoneIsLostInWholeRuns};
 
 /// What a driver sent by the socket of a class is exactly what the paired port's driver delivered to the paired socket, each
@@ -152,4 +153,24 @@ pub fn sent_is_forwarded_until()
 /// And where the wire waits it is what is expected there, on these lanes the first so many.
 pub fn sent_is_expected_until()
     ensures { SentIsExpectedUntil }
+{}
+
+/// At each call that a driver makes, each packet that its attempts lost has its reason.
+pub fn loses_for_reason()
+    ensures { LosesForReason }
+{}
+
+/// So it is in every legal history, as far as the driver has come in it.
+pub fn loses_for_reason_in_histories()
+    ensures { LosesForReasonInHistories }
+{}
+
+/// So has each that they lost in a whole run.
+pub fn lost_for_reason()
+    ensures { LostForReason }
+{}
+
+/// And so has each that a port lost on a queue in a history of whole runs of all workers.
+pub fn lost_for_reason_in_runs()
+    ensures { LostForReasonInRuns }
 {}

@@ -1,3 +1,4 @@
+pub mod Redirect
 pub mod Chain
 pub mod Program
 pub mod Rules

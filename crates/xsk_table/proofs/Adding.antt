@@ -28,7 +28,7 @@ use Rattle.xsk_model.proofs.Folds.{own-push_same, own-push_other, part_of_own-pu
 use Rattle.xsk_model.proofs.Moves.{ring_at-after_same, ring_at-after_other, not_producer, not_consumer, cond-held}
 use Rattle.xsk_model.proofs.Histories.{history_sound, after_all-append}
 use Rattle.xsk_model.proofs.CallTheorems.{one_more}
-use Rattle.xsk_words.specs.Layout.{mark}
+use Rattle.xsk_table.specs.Layout.{mark}
 use Rattle.xsk_table.specs.View.{Basis, Flight, idle, View}
 use Rattle.xsk_table.specs.Rule.{at, opened, given, released, written, lying, aloft, AllHome, RingHolds, IsInFlight, Rule}
 use Rattle.xsk_table.specs.Plays.{Extends, entry}

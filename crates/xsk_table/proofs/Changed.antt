@@ -17,7 +17,7 @@ use Rattle.xsk_model.specs.Entry.{Told, Entry, own}
 use Rattle.xsk_model.specs.History.{IsHistory, state_after}
 use Rattle.xsk_model.specs.declared.call.Ring.{Ring}
 use Rattle.xsk_model.specs.declared.call.Mark.{Mark}
-use Rattle.xsk_words.specs.Layout.{mark}
+use Rattle.xsk_table.specs.Layout.{mark}
 use Rattle.xsk_table.specs.View.{Basis, Flight, idle, placing, writing, taking, fetching, View}
 use Rattle.xsk_table.specs.Rule.{at, given, released, Written, written, lying, aloft, Homes, IsVacant, AllHome, RingHolds, HasAll, IsInFlight, StartsWith, Knows, Rule}
 use Rattle.xsk_table.proofs.WordRows.{SameWords, ring_size}

@@ -18,8 +18,8 @@ use Rattle.xsk_model.specs.Entry.{Told, own}
 use Rattle.xsk_model.specs.Own.{had_of, released_of, held_of}
 use Rattle.xsk_model.specs.declared.call.Ring.{Ring}
 use Rattle.xsk_model.proofs.Roles.{two_owners}
-use Rattle.xsk_words.specs.Words.{second_word}
-use Rattle.xsk_words.specs.Layout.{entry_words, word_at}
+use Rattle.xsk_table.specs.Words.{second_word}
+use Rattle.xsk_table.specs.Layout.{entry_words, word_at}
 use Rattle.xsk_table.specs.View.{Basis, Flight, idle, taking, fetching, View}
 use Rattle.xsk_table.specs.Rule.{entry_of, second_of, Lies, AreLast, given, released, written, lying, aloft, Homes, IsHome, AllHome, HasAll, IsInFlight, RingHolds, Rule}
 use Rattle.xsk_table.specs.Plays.{Seated, Purpose, still, emptied, IsFirst, Fetched, fetches, Settled, settles, reads}

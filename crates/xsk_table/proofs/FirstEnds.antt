@@ -18,8 +18,8 @@ use Rattle.xsk_model.specs.declared.call.Ring.{Ring}
 use Rattle.xsk_model.specs.declared.call.Ring.TheVariants.{Fill, Comp, Rx, Tx}
 use Rattle.xsk_model.proofs.Places.{place_below}
 use Rattle.xsk_model.proofs.FirstState.{opening_ring_is}
-use Rattle.xsk_words.specs.Layout.{widths_of, ring_base, most_ring_words}
-use Rattle.xsk_words.proofs.Rows.{length-widths_of, few_words}
+use Rattle.xsk_table.specs.Layout.{widths_of, ring_base, most_ring_words}
+use Rattle.xsk_table.proofs.Rows.{length-widths_of, few_words}
 use Rattle.xsk_table.specs.View.{Basis, idle}
 use Rattle.xsk_table.specs.Rule.{wrapped, opened}
 use Rattle.xsk_table.specs.Opening.{first_count, Begins, AreFirst, FirstEnds, AtRest}

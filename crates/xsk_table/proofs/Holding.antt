@@ -23,7 +23,7 @@ use Rattle.xsk_table.specs.View.{Basis, Flight, idle, taking, View}
 use Rattle.xsk_table.specs.Rule.{wrapped, opened, lying}
 use Rattle.xsk_table.specs.Plays.{Extends, still, items_reply}
 use Rattle.xsk_table.specs.Held.{AreLeft, EndHolds, EndsHold, PassHolds, no_end}
-use Rattle.xsk_words.specs.Layout.{most_ring_words}
+use Rattle.xsk_table.specs.Layout.{most_ring_words}
 use Rattle.xsk_table.specs.declared.end.End.{End}
 use Rattle.xsk_table.proofs.Peeking.{lying_still}
 

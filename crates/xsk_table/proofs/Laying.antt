@@ -13,8 +13,8 @@ use Rattle.xsk_model.specs.declared.call.Ring.{Ring}
 use Rattle.xsk_model.specs.declared.call.Ring.TheVariants.{Fill, Comp, Rx, Tx}
 use Rattle.xsk_model.specs.declared.call.Mark.{Mark}
 use Rattle.xsk_model.specs.declared.call.Mark.TheVariants.{NeedFill, NeedTx, Kick, RxDone, Gone, TxDone, Cell, Closing, Acked, Bounced}
-use Rattle.xsk_words.specs.Layout.{width_of, ring_base, marks_base, words_of, Word, producer, consumer, mark, HasWord, word_at}
-use Rattle.xsk_words.proofs.Rows.{base_within, own_words}
+use Rattle.xsk_table.specs.Layout.{width_of, ring_base, marks_base, words_of, Word, producer, consumer, mark, HasWord, word_at}
+use Rattle.xsk_table.proofs.Rows.{base_within, own_words}
 use Rattle.xsk_table.specs.Rule.{at, entry_of}
 use Rattle.xsk_table.specs.Opening.{first_count, ArePooled, WordsOpen, IsOfFill, IsOfCell, Spares, SparesBelow, AreCells, IsFilled}
 use Rattle.xsk_table.proofs.WordRows.{ring_size, divides, write_here, write_else}

@@ -1,3 +1,5 @@
+pub mod Rows
+pub mod Counts
 pub mod WordRows
 pub mod Seating
 pub mod Changed

@@ -25,8 +25,8 @@ use Rattle.xsk_model.specs.declared.call.Reply.{Reply}
 use Rattle.xsk_model.specs.declared.call.Reply.TheVariants.{Old}
 use Rattle.xsk_model.proofs.Folds.{own-push_other, part_of_own-push_other}
 use Rattle.xsk_model.proofs.CallTheorems.{one_more, marks_after_entry}
-use Rattle.xsk_words.specs.Layout.{mark, word_at, words_of}
-use Rattle.xsk_words.proofs.Rows.{own_words}
+use Rattle.xsk_table.specs.Layout.{mark, word_at, words_of}
+use Rattle.xsk_table.proofs.Rows.{own_words}
 use Rattle.xsk_table.specs.View.{Basis, Flight, idle, View}
 use Rattle.xsk_table.specs.Rule.{at, opened, written, lying, aloft, AllHome, Rule}
 use Rattle.xsk_table.specs.Plays.{Seated, Purpose, IsReady, Extends, swaps, looks, entry}

@@ -11,9 +11,9 @@ use Rattle.xsk_model.specs.Config.{Config, IsRingSize, size_of}
 use Rattle.xsk_model.specs.Legal.{IsItemOn}
 use Rattle.xsk_model.specs.declared.call.Ring.{Ring}
 use Rattle.xsk_model.specs.declared.call.Ring.TheVariants.{Fill, Comp, Rx, Tx}
-use Rattle.xsk_words.specs.Words.{second_word, unpacked}
-use Rattle.xsk_words.specs.Layout.{entry_words, ring_base, word_at}
-use Rattle.xsk_words.proofs.Counts.{packed_back}
+use Rattle.xsk_table.specs.Words.{second_word, unpacked}
+use Rattle.xsk_table.specs.Layout.{entry_words, ring_base, word_at}
+use Rattle.xsk_table.proofs.Counts.{packed_back}
 use Rattle.xsk_table.specs.View.{Basis, Flight, taking, View}
 use Rattle.xsk_model.specs.Entry.{Entry, own}
 use Rattle.xsk_model.specs.Own.{given_of, released_of, held_of}

@@ -21,9 +21,9 @@ use Rattle.xsk_model.proofs.Counting.{times-append, numbers-append}
 use Rattle.xsk_model.proofs.Folds.{own-push_same, had_of-push}
 use Rattle.xsk_model.proofs.Moves.{taken-peek}
 use Rattle.xsk_model.proofs.Roles.{two_owners}
-use Rattle.xsk_words.specs.Words.{used_of}
-use Rattle.xsk_words.specs.Layout.{producer, word_at}
-use Rattle.xsk_words.proofs.Counts.{used_is}
+use Rattle.xsk_table.specs.Words.{used_of}
+use Rattle.xsk_table.specs.Layout.{producer, word_at}
+use Rattle.xsk_table.proofs.Counts.{used_is}
 use Rattle.xsk_table.specs.View.{Basis, Flight, idle, View}
 use Rattle.xsk_table.specs.Rule.{wrapped, nothing, given, released, written, lying, aloft, AllHome, Homes, HasAll, AreLast, IsInFlight, RingHolds, Rule}
 use Rattle.xsk_table.specs.Known.{out_after}

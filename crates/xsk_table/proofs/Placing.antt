@@ -23,8 +23,8 @@ use Rattle.xsk_model.specs.Legal.{IsItemOn}
 use Rattle.xsk_model.specs.declared.call.Ring.{Ring}
 use Rattle.xsk_model.specs.declared.call.Mark.{Mark}
 use Rattle.xsk_model.proofs.Roles.{two_owners}
-use Rattle.xsk_words.specs.Words.{second_word}
-use Rattle.xsk_words.specs.Layout.{entry_words, words_of, Word, producer, consumer, mark, HasWord, word_at}
+use Rattle.xsk_table.specs.Words.{second_word}
+use Rattle.xsk_table.specs.Layout.{entry_words, words_of, Word, producer, consumer, mark, HasWord, word_at}
 use Rattle.xsk_table.specs.View.{Basis, Flight, idle, placing, writing, taking, fetching, View}
 use Rattle.xsk_table.specs.Rule.{at, entry_of, second_of, opened, given, released, Lies, Written, nothing, written, standing, lying, aloft, Homes, IsHome, AllHome, HasAll, RingHolds, Rule}
 use Rattle.xsk_table.specs.Plays.{Seated, Purpose, IsPlacing, CanPlace, IsFirst, with_slot, without_slot, Lifted, lifts, Placed, places, IsTaken, PutIn}

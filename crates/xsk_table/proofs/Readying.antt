@@ -12,8 +12,8 @@ use Rattle.xsk_model.specs.Legal.{IsItemOn, IsLegal}
 use Rattle.xsk_model.specs.declared.call.Ring.{Ring}
 use Rattle.xsk_model.specs.declared.call.Call.TheVariants.{Submit}
 use Rattle.xsk_model.proofs.Counting.{times-append, numbers-append}
-use Rattle.xsk_words.specs.Layout.{entry_words, ring_base, marks_base, words_of}
-use Rattle.xsk_words.proofs.Rows.{base_within}
+use Rattle.xsk_table.specs.Layout.{entry_words, ring_base, marks_base, words_of}
+use Rattle.xsk_table.proofs.Rows.{base_within}
 use Rattle.xsk_table.specs.View.{Basis, Flight, placing, taking, View}
 use Rattle.xsk_table.specs.Rule.{wrapped, lying}
 use Rattle.xsk_table.specs.Plays.{ask_for, ask_item, CanPlace, PutIn, still, emptied}

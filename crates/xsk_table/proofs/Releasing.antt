@@ -12,7 +12,7 @@ use Rattle.xsk_model.specs.Own.{is_on, released_of}
 use Rattle.xsk_model.specs.declared.call.Call.TheVariants.{Release}
 use Rattle.xsk_model.specs.declared.call.Reply.TheVariants.{Released}
 use Rattle.xsk_model.proofs.Roles.{two_owners}
-use Rattle.xsk_words.specs.Layout.{consumer, word_at}
+use Rattle.xsk_table.specs.Layout.{consumer, word_at}
 use Rattle.xsk_table.specs.View.{Flight, idle, View}
 use Rattle.xsk_table.specs.Rule.{wrapped, given, released, written, aloft, RingHolds, Rule}
 use Rattle.xsk_table.specs.Plays.{Seated, Purpose, IsReady, releases, entry}

@@ -15,9 +15,9 @@ use Rattle.xsk_model.specs.declared.call.Call.TheVariants.{Reserve}
 use Rattle.xsk_model.specs.declared.call.Reply.{Reply}
 use Rattle.xsk_model.specs.declared.call.Reply.TheVariants.{Granted, Full}
 use Rattle.xsk_model.proofs.Moves.{cond-out}
-use Rattle.xsk_words.specs.Words.{used_of}
-use Rattle.xsk_words.specs.Layout.{consumer, word_at}
-use Rattle.xsk_words.proofs.Counts.{used_is}
+use Rattle.xsk_table.specs.Words.{used_of}
+use Rattle.xsk_table.specs.Layout.{consumer, word_at}
+use Rattle.xsk_table.proofs.Counts.{used_is}
 use Rattle.xsk_table.specs.View.{Flight, idle, View}
 use Rattle.xsk_table.specs.Rule.{wrapped, nothing, given, released, written, aloft, AllHome, RingHolds, Rule}
 use Rattle.xsk_table.specs.Known.{free_after}

@@ -10,7 +10,7 @@ use Rattle.xsk_model.specs.declared.call.Ring.{Ring}
 use Rattle.xsk_model.specs.declared.call.Call.TheVariants.{Reserve, Submit, Peek, Release}
 use Rattle.xsk_model.proofs.Places.{is_ring-self}
 use Rattle.xsk_model.proofs.Moves.{cond-held, cond-out}
-use Rattle.xsk_words.specs.Layout.{words_of, Word, producer, consumer, HasWord, word_at}
+use Rattle.xsk_table.specs.Layout.{words_of, Word, producer, consumer, HasWord, word_at}
 use Rattle.xsk_table.specs.View.{Basis, placing, writing}
 use Rattle.xsk_table.specs.Rule.{wrapped, entry_of, second_of, Lies, Written, nothing, written, standing, RingHolds}
 use Rattle.xsk_table.proofs.WordRows.{ring_size, write_here, write_else}

@@ -16,7 +16,7 @@ use Rattle.xsk_model.specs.Entry.{own}
 use Rattle.xsk_model.specs.declared.call.Ring.{Ring}
 use Rattle.xsk_model.specs.declared.call.Mark.{Mark}
 use Rattle.xsk_model.proofs.Places.{is_ring-true}
-use Rattle.xsk_words.specs.Layout.{mark}
+use Rattle.xsk_table.specs.Layout.{mark}
 use Rattle.xsk_table.specs.View.{Basis, Flight, idle, View}
 use Rattle.xsk_table.specs.Rule.{at, given, released, written, lying, aloft, IsVacant, AllHome, RingHolds, IsInFlight, Rule}
 use Rattle.xsk_table.proofs.WordRows.{SameWords}

@@ -12,7 +12,7 @@ use Rattle.xsk_model.specs.Own.{is_on, given_of}
 use Rattle.xsk_model.specs.declared.call.Call.TheVariants.{Submit}
 use Rattle.xsk_model.specs.declared.call.Reply.TheVariants.{Submitted}
 use Rattle.xsk_model.proofs.Counting.{times-append, numbers-append}
-use Rattle.xsk_words.specs.Layout.{producer, word_at}
+use Rattle.xsk_table.specs.Layout.{producer, word_at}
 use Rattle.xsk_table.specs.View.{Flight, idle, placing, View}
 use Rattle.xsk_table.specs.Rule.{wrapped, opened, given, released, Written, written, lying, aloft, AllHome, Homes, RingHolds, Rule}
 use Rattle.xsk_table.specs.Plays.{Seated, Purpose, IsReady, Ended, submits, entry}

@@ -13,8 +13,8 @@ use Rattle.xsk_model.specs.declared.call.Ring.TheVariants.{Fill, Comp, Rx, Tx}
 use Rattle.xsk_model.specs.declared.call.Mark.{Mark}
 use Rattle.xsk_model.proofs.Places.{is_ring-self}
 use Rattle.xsk_model.proofs.RingSizes.{some_size}
-use Rattle.xsk_words.specs.Layout.{entry_words, words_of, Word, producer, consumer, entry, second, mark, HasWord, word_at}
-use Rattle.xsk_words.proofs.Rows.{own_words}
+use Rattle.xsk_table.specs.Layout.{entry_words, words_of, Word, producer, consumer, entry, second, mark, HasWord, word_at}
+use Rattle.xsk_table.proofs.Rows.{own_words}
 use Rattle.xsk_table.specs.Rule.{at}
 
 -- ---- sizes

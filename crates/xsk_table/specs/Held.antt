@@ -12,8 +12,8 @@ use Rattle.xsk_model.specs.History.{IsHistory}
 use Rattle.xsk_model.specs.declared.call.Ring.{Ring}
 use Rattle.xsk_model.specs.declared.call.Call.{Call}
 use Rattle.xsk_model.specs.declared.call.Call.TheVariants.{Reserve, Submit, Peek, Release, Swap, Look}
-use Rattle.xsk_words.specs.Layout.{ring_base, mark_bases, words_of, most_ring_words}
-use Rattle.xsk_words.specs.declared.bases.MarkBases.{MarkBases}
+use Rattle.xsk_table.specs.Layout.{ring_base, mark_bases, words_of, most_ring_words}
+use Rattle.xsk_table.specs.declared.bases.MarkBases.{MarkBases}
 use Rattle.xsk_table.specs.View.{Basis, taking, View, newcomer}
 use Rattle.xsk_table.specs.Rule.{wrapped, opened, lying}
 use Rattle.xsk_table.specs.declared.end.End.{End}

@@ -2,7 +2,7 @@
 use Rattle.std.specs.Prelude.{◌≡◌, ℕ, List, [], ◌∷◌}
 use Rattle.xsk_model.specs.Config.{Config, IsConfig}
 use Rattle.xsk_model.specs.Rings as rings
-use Rattle.xsk_words.specs.Layout.{Word, producer, consumer, entry, second, mark, HasWord, word_at}
+use Rattle.xsk_table.specs.Layout.{Word, producer, consumer, entry, second, mark, HasWord, word_at}
 
 -- a count that the one caller writes itself, or no count
 abbrev pub IsOwnOrNone : Config → List ℕ → Word → Type 0

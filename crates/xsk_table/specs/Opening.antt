@@ -13,7 +13,7 @@ use Rattle.xsk_model.specs.declared.call.Ring.{Ring}
 use Rattle.xsk_model.specs.declared.call.Ring.TheVariants.{Fill, Comp, Rx, Tx}
 use Rattle.xsk_model.specs.declared.call.Mark.{Mark}
 use Rattle.xsk_model.specs.declared.call.Mark.TheVariants.{Cell}
-use Rattle.xsk_words.specs.Layout.{words_of, Word, producer, consumer, entry, second, mark, HasWord}
+use Rattle.xsk_table.specs.Layout.{words_of, Word, producer, consumer, entry, second, mark, HasWord}
 use Rattle.xsk_table.specs.View.{Basis, idle}
 use Rattle.xsk_table.specs.Rule.{at, wrapped, opened, entry_of, all_callers}
 use Rattle.xsk_model.specs.Opening.{IsOpened}

@@ -19,7 +19,7 @@ use Rattle.xsk_model.specs.declared.call.Mark.TheVariants.{Kick}
 use Rattle.xsk_model.specs.declared.call.Call.TheVariants.{Reserve, Submit, Peek, Release, Swap, Look}
 use Rattle.xsk_model.specs.declared.call.Reply.{Reply}
 use Rattle.xsk_model.specs.declared.call.Reply.TheVariants.{Granted, Submitted, Items, Empty, Released, Old}
-use Rattle.xsk_words.specs.Words.{used_of, second_word}
+use Rattle.xsk_table.specs.Words.{used_of, second_word}
 use Rattle.xsk_table.specs.View.{Basis, Flight, idle, placing, writing, taking, fetching, View}
 use Rattle.xsk_table.specs.Rule.{wrapped, opened, given, released, lying, HasAll}
 use Rattle.xsk_table.specs.Known.{free_after, out_after}

@@ -21,8 +21,8 @@ use Rattle.xsk_model.specs.History.{IsHistory, state_after}
 use Rattle.xsk_model.specs.Legal.{IsItemOn}
 use Rattle.xsk_model.specs.declared.call.Ring.{Ring}
 use Rattle.xsk_model.specs.declared.call.Mark.{Mark}
-use Rattle.xsk_words.specs.Words.{second_word}
-use Rattle.xsk_words.specs.Layout.{entry_words, words_of, Word, producer, consumer, entry, second, mark, word_at}
+use Rattle.xsk_table.specs.Words.{second_word}
+use Rattle.xsk_table.specs.Layout.{entry_words, words_of, Word, producer, consumer, entry, second, mark, word_at}
 use Rattle.xsk_table.specs.View.{Basis, Flight, idle, placing, writing, taking, fetching, View}
 
 -- ---- counts

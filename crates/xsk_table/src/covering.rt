@@ -5,12 +5,13 @@ ghost use Rattle.xsk_model.specs.Entry.{own};
 ghost use Rattle.xsk_model.specs.Legal.{IsLegal};
 ghost use Rattle.xsk_model.specs.declared.call.Call.TheVariants.{Reserve, Peek};
 ghost use Rattle.xsk_model.specs.declared.call.Reply.TheVariants.{Granted};
-ghost use Rattle.xsk_words.specs.Layout.{producer, consumer, word_at};
+ghost use Rattle.xsk_table.specs.Layout.{producer, consumer, word_at};
 ghost use Rattle.xsk_table.specs.View.{idle};
 ghost use Rattle.xsk_table.specs.Plays.{IsReady, Ended, Extends, HasRoom, HasItems, PeekedAll, ask_for, still, items_reply};
 ghost use Rattle.xsk_table.specs.Held.{Belongs, IsAt, known_on, with_known, is_covered};
 
 use crate::board::{Board, Chair};
+use crate::layout::{CONSUMER, PRODUCER};
 use crate::pass::Pass;
 use crate::shared::Shared;
 use crate::view::{Asking, View};
@@ -18,7 +19,6 @@ use atomic_table::Play;
 use std::marker::{Brand, PhantomData};
 use xsk_model::{Call, Ring};
 use xsk_umem::Frame;
-use xsk_words::{CONSUMER, PRODUCER};
 
 /// The look of a Reserve that is covered.
 pub struct Granting<J> {

@@ -4,7 +4,7 @@ ghost use Rattle.xsk_model.specs.Entry.{own};
 ghost use Rattle.xsk_model.specs.Legal.{IsLegal};
 ghost use Rattle.xsk_model.specs.declared.call.Call.TheVariants.{Swap, Look};
 ghost use Rattle.xsk_model.specs.declared.call.Reply.TheVariants.{Old};
-ghost use Rattle.xsk_words.specs.Layout.{mark as word_of_mark, word_at};
+ghost use Rattle.xsk_table.specs.Layout.{mark as word_of_mark, word_at};
 ghost use Rattle.xsk_table.specs.View.{idle};
 ghost use Rattle.xsk_table.specs.Plays.{IsReady, Extends, Answered, ask_mark};
 ghost use Rattle.xsk_table.specs.Held.{Belongs};

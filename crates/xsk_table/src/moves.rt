@@ -9,18 +9,19 @@ ghost use Rattle.xsk_model.specs.Rings.{consumer};
 ghost use Rattle.xsk_model.specs.Entry.{own};
 ghost use Rattle.xsk_model.specs.Own.{given_of};
 ghost use Rattle.xsk_model.specs.Legal.{IsItemOn};
-ghost use Rattle.xsk_words.specs.Words.{second_word};
-ghost use Rattle.xsk_words.specs.Layout.{entry_words as words_of_entry, ring_base, producer, word_at, most_ring_words, last_entry_word};
+ghost use Rattle.xsk_table.specs.Words.{second_word};
+ghost use Rattle.xsk_table.specs.Layout.{entry_words as words_of_entry, ring_base, producer, word_at, most_ring_words, last_entry_word};
 ghost use Rattle.xsk_table.specs.View.{taking, fetching, writing, placing};
 ghost use Rattle.xsk_table.specs.Rule.{wrapped, entry_of, second_of, opened, lying};
 ghost use Rattle.xsk_table.specs.Plays.{Placed, Lifted, PutIn, Fetched, Settled, CanPlace, IsPlacing, IsTaken, IsFirst, Emptied, TakenOut, ask_for, ask_item, emptied};
 
 use crate::board::{Board, Chair};
+use crate::layout::{ENTRIES, PRODUCER, entry_words};
 use crate::view::{Asking, Fetching, Lifting, Placing, Reading, Settling};
+use crate::words::{pack, unpack};
 use std::marker::Brand;
 use xsk_model::Ring;
 use xsk_umem::{Frame, Geometry, Item, XdpDesc};
-use xsk_words::{ENTRIES, PRODUCER, entry_words, pack, unpack};
 
 /// The place of a count among a ring's entries, for a size that is a power of two.
 fn entry_place(count: u32, mask: u32) -> usize

@@ -6,15 +6,15 @@ ghost use Rattle.xsk_model.specs.Config.{IsConfig, IsLawful, HasRing, size_of, m
 ghost use Rattle.xsk_model.specs.Rings.{place as place_of, places_of};
 ghost use Rattle.xsk_model.specs.declared.call.Ring.{Ring as Line};
 ghost use Rattle.xsk_model.specs.Marks.{mark_places_of};
-ghost use Rattle.xsk_words.specs.Layout.{words_of, marks_base as base_of_marks};
+ghost use Rattle.xsk_table.specs.Layout.{words_of, marks_base as base_of_marks};
 ghost use Rattle.xsk_table.specs.Opening.{WordsOpen, Begins, Spares, SparesBelow, IsOfFill, IsOfCell, IsFilled, AreCells, FirstEnds};
 
 use crate::end::End;
+use crate::layout::{ENTRIES, PRODUCER, mark_word, marks_base, place_width, ring_base, word_count};
 use std::alloc::Global;
 use xsk_model::placement::{has_ring, ring_places};
 use xsk_model::{Config, Mark, Ring};
 use xsk_umem::OutOfMemory;
-use xsk_words::{ENTRIES, PRODUCER, mark_word, marks_base, place_width, ring_base, word_count};
 
 /// The words of a new table: all counts at `first`, but that each pair's FILL ring has the frames of its pool.
 pub(crate) fn lay_words(alloc: Global, config: &Config, first: u32) -> Result<Vec<u64>, OutOfMemory>

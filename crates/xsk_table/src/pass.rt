@@ -18,13 +18,13 @@ ghost use Rattle.xsk_table.specs.Held.{Belongs, IsAt, with_known};
 use crate::board::Chair;
 use crate::counting::Steps;
 use crate::end::End;
+use crate::layout::{CONSUMER, PRODUCER};
 use crate::shared::Shared;
 use crate::{moves, steps};
 use std::marker::Model;
 use std::sync::ledger::Ledger;
 use xsk_model::{Reply, Ring};
 use xsk_umem::{Batch, Item};
-use xsk_words::{CONSUMER, PRODUCER};
 
 /// A caller's way to the rings. It knows what its own calls left, and holds no slot between them.
 ///

@@ -9,6 +9,7 @@ ghost use Rattle.xsk_table.specs.Rule.{all_callers};
 ghost use Rattle.xsk_table.specs.Held.{Board as Face, IsAt};
 ghost use Rattle.xsk_table.specs.Opening.{WordsOpen, AllFirst, list_of, new_passes};
 
+use crate::bases::MarkBases;
 use crate::board::{Board, Chair};
 use crate::end::End;
 use crate::opening::{lay_ends, lay_words};
@@ -23,7 +24,6 @@ use thiserror::Error;
 use xsk_model::placement::ring_place;
 use xsk_model::{Config, Ring};
 use xsk_umem::{Frame, Frames, OutOfMemory};
-use xsk_words::MarkBases;
 
 /// Memory for the table couldn't be had. What was handed in comes back.
 #[derive(Debug, Drop, Error)]

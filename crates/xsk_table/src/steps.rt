@@ -8,7 +8,7 @@ ghost use Rattle.xsk_model.specs.Object.{reserve_reply};
 ghost use Rattle.xsk_model.specs.Own.{granted, given_of, released_of};
 ghost use Rattle.xsk_model.specs.declared.call.Call.TheVariants.{Reserve, Submit, Peek, Release};
 ghost use Rattle.xsk_model.specs.declared.call.Reply.TheVariants.{Submitted, Released};
-ghost use Rattle.xsk_words.specs.Layout.{producer, consumer, word_at};
+ghost use Rattle.xsk_table.specs.Layout.{producer, consumer, word_at};
 ghost use Rattle.xsk_table.specs.View.{idle, placing};
 ghost use Rattle.xsk_table.specs.Rule.{wrapped, opened, lying};
 ghost use Rattle.xsk_table.specs.Known.{free_after, out_after};
@@ -17,10 +17,10 @@ ghost use Rattle.xsk_table.specs.Plays.{IsReady, Reserved, Extends, Ended, Peeke
 use crate::board::{Board, Chair};
 use crate::counting::Steps;
 use crate::view::{Asking, Peeking, Raising, Releasing, Reserving};
+use crate::words::used;
 use std::marker::Brand;
 use std::sync::ledger::Ledger;
 use xsk_model::Ring;
-use xsk_words::used;
 
 fn look_room<J: Asking, L: Ledger>(
     board: &Board,

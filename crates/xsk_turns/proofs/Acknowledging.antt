@@ -6,7 +6,7 @@ use Rattle.std.specs.Result.{result_ok}
 use Rattle.std.proofs.lemmas.Bool.{eqb-true}
 use Rattle.std.proofs.lemmas.Bool.Decides.{nat_tests}
 use Rattle.std.proofs.lemmas.List.Sums.{fold_push}
-use Rattle.xsk_map.specs.declared.cell.Miss.TheVariants.{EmptyCell, OtherQueue}
+use Rattle.xsk_prog.specs.declared.cell.Miss.TheVariants.{EmptyCell, OtherQueue}
 use Rattle.xsk_turns.proofs.Object.{Config, pair_at, classes_of, socket_at, map_of, is_ring, is_on, submitted, taken, room_of, room_step, held_of, held_step, IsFed}
 use Rattle.xsk_turns.proofs.Calls.{Item, Told, with_told, Ring, Rx, Cell, Call, Reserve, Submit, Swap, Look, Reply, Granted, Full, Submitted, Empty, Old}
 use Rattle.xsk_model.specs.declared.call.Mark.TheVariants.{Closing, Acked}

@@ -1,5 +1,5 @@
 use Rattle.std.proofs.Common.{ℕ, [], ◌∷◌, ap, ◌∙◌}
-use Rattle.xsk_words.specs.Layout.{consumer}
+use Rattle.xsk_table.specs.Layout.{consumer}
 use Rattle.xsk_table.proofs.Peeking.{gives_keep}
 use Rattle.xsk_table.proofs.covering.look_at_consumer.Goals as goal
 

@@ -1,5 +1,5 @@
 use Rattle.std.proofs.Common.{ℕ, [], ◌∷◌, ap, ◌∙◌}
-use Rattle.xsk_words.specs.Layout.{producer}
+use Rattle.xsk_table.specs.Layout.{producer}
 use Rattle.xsk_table.proofs.Reserving.{grants_keep}
 use Rattle.xsk_table.proofs.covering.look_at_producer.Goals as goal
 

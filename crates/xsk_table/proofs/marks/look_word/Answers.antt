@@ -1,4 +1,4 @@
-use Rattle.xsk_words.specs.Layout.{mark}
+use Rattle.xsk_table.specs.Layout.{mark}
 use Rattle.xsk_table.proofs.Marking.{looks_keep}
 use Rattle.xsk_table.proofs.marks.look_word.Goals as goal
 

@@ -1,5 +1,5 @@
 use Rattle.std.proofs.Common.{ℕ, [], ◌∷◌, ap, ◌∙◌}
-use Rattle.xsk_words.specs.Layout.{producer}
+use Rattle.xsk_table.specs.Layout.{producer}
 use Rattle.xsk_table.proofs.Placing.{lifts_look}
 use Rattle.xsk_table.proofs.moves.lift.Goals as goal
 

@@ -3,7 +3,7 @@ use Rattle.std.specs.List.{sum}
 use Rattle.xsk_umem.specs.Frame.{Frame}
 use Rattle.xsk_model.specs.Rings.{places_of}
 use Rattle.xsk_model.specs.Opening.{IsOpened}
-use Rattle.xsk_words.specs.Layout.{widths_of}
+use Rattle.xsk_table.specs.Layout.{widths_of}
 use Rattle.xsk_table.specs.Opening.{AreFirst}
 use Rattle.xsk_table.proofs.opening.lay_ends.Given as goal
 

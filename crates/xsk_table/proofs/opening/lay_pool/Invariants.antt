@@ -1,7 +1,7 @@
 use Rattle.std.proofs.Common.{◌≡◌, ◌+◌, ◌%◌, ◌^◌}
 use Rattle.xsk_model.specs.Config.{pool_of}
 use Rattle.xsk_model.specs.declared.call.Ring.TheVariants.{Fill}
-use Rattle.xsk_words.specs.Layout.{producer}
+use Rattle.xsk_table.specs.Layout.{producer}
 use Rattle.xsk_table.specs.Rule.{at}
 use Rattle.xsk_table.specs.Opening.{Spares, IsOfFill, ArePooled}
 use Rattle.xsk_table.proofs.opening.lay_pool.Given as goal

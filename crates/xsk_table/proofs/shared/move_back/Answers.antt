@@ -2,7 +2,7 @@ use Rattle.std.proofs.Common.{ℕ, Some, None, length, get_or, ap, ◌∙◌, ar
 use Rattle.std.proofs.lemmas.List.{length-set, length-map, take_all}
 use Rattle.xsk_umem.specs.Frame.{Frame}
 use Rattle.xsk_umem.specs.Frames.{Frames}
-use Rattle.xsk_words.proofs.Rows.{any_default}
+use Rattle.xsk_table.proofs.Rows.{any_default}
 use Rattle.xsk_table.proofs.Deals.{back_more}
 use Rattle.xsk_table.proofs.shared.move_back.Goals as goal
 

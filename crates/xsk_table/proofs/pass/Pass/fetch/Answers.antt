@@ -4,7 +4,7 @@ use Rattle.xsk_umem.specs.declared.batch.Item.{Item as Thing}
 use Rattle.xsk_model.specs.Config.{HasRing, size_of, callers_of}
 use Rattle.xsk_model.specs.Rings.{place, consumer}
 use Rattle.xsk_model.proofs.Roles.{two_owners}
-use Rattle.xsk_words.specs.Layout.{ring_base}
+use Rattle.xsk_table.specs.Layout.{ring_base}
 use Rattle.xsk_table.specs.View.{Basis, taking, View}
 use Rattle.xsk_table.specs.Known.{AreSure}
 use Rattle.xsk_table.specs.Rule.{wrapped, lying}

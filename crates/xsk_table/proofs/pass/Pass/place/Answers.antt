@@ -5,7 +5,7 @@ use Rattle.xsk_model.specs.Rings.{place}
 use Rattle.xsk_model.specs.Entry.{own}
 use Rattle.xsk_model.specs.Legal.{IsLegal}
 use Rattle.xsk_model.specs.declared.call.Call.TheVariants.{Submit}
-use Rattle.xsk_words.specs.Layout.{ring_base}
+use Rattle.xsk_table.specs.Layout.{ring_base}
 use Rattle.xsk_table.specs.View.{Basis, View}
 use Rattle.xsk_table.specs.Known.{AreSure}
 use Rattle.xsk_table.specs.Rule.{lying}

@@ -1,5 +1,0 @@
-use Rattle.xsk_lost.proofs.Theorems.{lost_for_reason_in_runs}
-use Rattle.xsk_lost.proofs.laws.lost_for_reason_in_runs.Goals as goal
-
-pub returns : goal.returns
-returns c = lost_for_reason_in_runs

@@ -1,5 +1,0 @@
-use Rattle.xsk_words.proofs.Rows.{own_words}
-use Rattle.xsk_words.proofs.laws.own_words.Goals as goal
-
-pub returns : goal.returns
-returns c = own_words

@@ -1,7 +1,0 @@
-use Rattle.std.proofs.Common.{◌≡◌, ◌*◌, ◌≤◌, take}
-use Rattle.std.specs.List.{sum}
-use Rattle.xsk_words.specs.Layout.{widths_of}
-use Rattle.xsk_words.proofs.layout.words_before.Given as goal
-
-abbrev pub invariant-loop-place : goal.invariant-loop-place
-invariant-loop-place l = (l.words ≡ sum (take l.place (widths_of l.config))) × (l.words ≤ 4128 * l.place)
