@@ -1,20 +1,19 @@
 -- What is possible fits: the program's calls in a history, each after those before it.
-use Rattle.std.proofs.Common.{◌≡◌, ℕ, zero, suc, ◌+◌, ◌-◌, ◌<◌, ◌≤◌, ◌⊎◌, Bool, true, false, cond, Option, Some, None, List, [], ◌∷◌, ◌++◌, length, take, drop, refl, sym, ap, ◌∙◌, subst, arith, ⊎_elim, inl, inr}
+use Rattle.std.proofs.Common.{◌≡◌, ℕ, zero, suc, ◌-◌, ◌≤◌, true, false, Option, List, [], ◌∷◌, length, take, drop, refl, sym, ap, ◌∙◌, subst, arith, ⊎_elim, inl, inr}
 use Rattle.std.proofs.lemmas.List.{length-map}
 use Rattle.std.proofs.lemmas.List.Elements.{All-take}
 use Rattle.xsk_umem.specs.declared.batch.XdpDesc.{XdpDesc}
 use Rattle.xsk_model.specs.declared.call.Ring.{Ring}
 use Rattle.xsk_model.specs.declared.call.Ring.TheVariants.{Fill, Comp, Rx, Tx}
 use Rattle.xsk_side.specs.Setting.{Setting, size_of, pair_of}
-use Rattle.xsk_side.specs.Entries.{times, strays_in}
+use Rattle.xsk_side.specs.Entries.{strays_in}
 use Rattle.xsk_side.specs.Object.{Entry, ring_of, ring_at, producer, consumer, is_made, Replies}
 use Rattle.xsk_side.specs.Own.{room_of, held_of, entry_of}
 use Rattle.xsk_side.specs.Legal.{IsLegal, IsReceived, IsCompleted, MayCome}
 use Rattle.xsk_side.specs.Possible.{IsHistory, Possible, own}
-use Rattle.xsk_side.specs.Local.{back_of, given_of, strays_given, new_of, FitsEntries, FitsReply, AllFit}
+use Rattle.xsk_side.specs.Local.{back_of, given_of, strays_given, FitsEntries, FitsReply, AllFit}
 use Rattle.xsk_side.specs.declared.call.Party.{Party}
 use Rattle.xsk_side.specs.declared.call.Party.TheVariants.{Program, Kernel}
-use Rattle.xsk_side.specs.declared.call.Answer.{Answer}
 use Rattle.xsk_side.specs.declared.call.Answer.TheVariants.{Granted, Full, Refused}
 use Rattle.xsk_side.specs.declared.call.Call.{Call}
 use Rattle.xsk_side.specs.declared.call.Call.TheVariants.{Reserve, Free, Submit, Peek, Release, Cancel}
@@ -22,8 +21,8 @@ use Rattle.xsk_side.proofs.Lists.{times-split, times-front, strays-split, length
 use Rattle.xsk_side.proofs.Rings.{entry, rings_sound}
 use Rattle.xsk_side.proofs.Frames.{frames_sound}
 use Rattle.xsk_side.proofs.Bounds.{sure_sound}
-use Rattle.xsk_side.proofs.Given.{Comes, IsRestSound, given_sound, behind, front-nil}
-use Rattle.xsk_side.proofs.Strays.{drop-front, on_tx, strays_sound}
+use Rattle.xsk_side.proofs.Given.{Comes, given_sound, behind, front-nil}
+use Rattle.xsk_side.proofs.Strays.{drop-front, strays_sound}
 
 pub made_by : (r : Ring) → Program ≡ producer r → is_made r ≡ true
 made_by (Fill d) h = refl

@@ -1,7 +1,7 @@
 -- Where each frame that the program gave away is: on FILL or TX, with the kernel, which took it there, or on RX or COMPLETION behind
 -- what a Cancel put back, where it may come.
-use Rattle.std.proofs.Common.{◌≡◌, ℕ, zero, suc, ◌+◌, ◌-◌, ◌<◌, ◌≤◌, ◌⊎◌, Bool, true, false, ◌&&◌, ◌||◌, not, ◌==◌, cond, Option, Some, None, List, [], ◌∷◌, ◌++◌, length, take, drop, map, get_or, refl, sym, ap, ◌∙◌, subst, arith, length-drop, ⊎_elim, inl, inr}
-use Rattle.std.specs.Prelude.{nat_lt, is_some, IsTrue, All}
+use Rattle.std.proofs.Common.{◌≡◌, ℕ, zero, suc, ◌+◌, ◌-◌, ◌≤◌, ◌⊎◌, Bool, true, false, ◌&&◌, ◌||◌, not, cond, Option, Some, None, List, [], ◌∷◌, ◌++◌, length, take, drop, get_or, refl, sym, ap, ◌∙◌, subst, arith, length-drop, ⊎_elim, inl, inr}
+use Rattle.std.specs.Prelude.{nat_lt, is_some, IsTrue}
 use Rattle.std.proofs.lemmas.Bool.Decides.{nat_tests}
 use Rattle.std.proofs.lemmas.List.Elements.{All-drop, All-append, All-nil}
 use Rattle.std.proofs.lemmas.List.{drop-drop, drop-append-le, take-append-le}
@@ -13,9 +13,9 @@ use Rattle.xsk_model.specs.Rings.{is_ring}
 use Rattle.xsk_model.proofs.Places.{is_ring-self}
 use Rattle.xsk_side.specs.Setting.{Setting, size_of, pair_of}
 use Rattle.xsk_side.specs.Entries.{frame, times, strays_in, stands, is_received, is_laid}
-use Rattle.xsk_side.specs.Object.{Entry, RingState, ring_of, ring_at, ring_after, producer, consumer, is_made, Replies}
+use Rattle.xsk_side.specs.Object.{Entry, RingState, ring_of, ring_at, ring_after, consumer, is_made, Replies}
 use Rattle.xsk_side.specs.Own.{put_back, has_frame, source_of, strays_taken}
-use Rattle.xsk_side.specs.Legal.{IsLegal, HasRole, IsReceived, IsCompleted, MayCome}
+use Rattle.xsk_side.specs.Legal.{IsLegal, IsReceived, IsCompleted, MayCome}
 use Rattle.xsk_side.specs.Possible.{IsHistory, own}
 use Rattle.xsk_side.specs.Local.{given_of, back_of, back_after}
 use Rattle.xsk_side.specs.declared.call.Party.{Party}
@@ -24,7 +24,7 @@ use Rattle.xsk_side.specs.declared.call.Call.{Call}
 use Rattle.xsk_side.specs.declared.call.Call.TheVariants.{Reserve, Free, Submit, Peek, Release, Cancel}
 use Rattle.xsk_side.proofs.Lists.{number, times-append, times-split, times-front, times-some, length-front}
 use Rattle.xsk_side.proofs.Rings.{entry, same_or, ring_here, ring_else, is_true, is_false, rings_sound}
-use Rattle.xsk_side.proofs.Frames.{IsFrameSound, frames_sound, few_put_back, out_put_back, other_way, positive}
+use Rattle.xsk_side.proofs.Frames.{IsFrameSound, frames_sound, few_put_back, out_put_back, positive}
 use Rattle.xsk_side.proofs.Bounds.{made_producer, made_consumer, unmade_producer, unmade_consumer, two_parties, made_out}
 
 -- ---- entries that may come, where frames came from the same rings

@@ -1,6 +1,6 @@
 -- What fits is possible: a kernel that takes at once, and does all else as late as it can, answers so.
-use Rattle.std.proofs.Common.{◌≡◌, ℕ, zero, suc, ◌+◌, ◌-◌, ◌<◌, ◌≤◌, ◌⊎◌, max, Bool, true, false, cond, Option, Some, None, List, [], ◌∷◌, ◌++◌, length, take, drop, map, refl, sym, ap, ◌∙◌, subst, arith, length-append, length-drop, ⊎_elim, inl, inr, append-nil}
-use Rattle.std.specs.Prelude.{is_some, nat_lt, IsTrue, All, ◌&&◌, ◌==◌}
+use Rattle.std.proofs.Common.{◌≡◌, ℕ, zero, suc, ◌+◌, ◌-◌, ◌≤◌, Bool, true, false, cond, Option, Some, None, List, [], ◌∷◌, ◌++◌, length, take, drop, refl, sym, ap, ◌∙◌, subst, arith, length-append, length-drop, ⊎_elim, inl, inr, append-nil}
+use Rattle.std.specs.Prelude.{is_some, IsTrue, All, ◌&&◌, ◌==◌}
 use Rattle.std.proofs.lemmas.List.{length-map, take_all, drop_all}
 use Rattle.std.proofs.lemmas.Bool.{cases_Bool}
 use Rattle.std.proofs.lemmas.Bool.Decides.{nat_tests}
@@ -11,25 +11,24 @@ use Rattle.xsk_model.specs.declared.call.Ring.{Ring}
 use Rattle.xsk_model.specs.declared.call.Ring.TheVariants.{Fill, Comp, Rx, Tx}
 use Rattle.xsk_model.specs.Rings.{is_ring}
 use Rattle.xsk_model.proofs.Places.{is_ring-self}
-use Rattle.xsk_side.specs.Setting.{Setting, IsSetting, HasRing, size_of, pair_of}
-use Rattle.xsk_side.specs.Entries.{names, frame, times, strays_in, last}
-use Rattle.xsk_side.specs.Object.{Entry, RingState, ring_of, ring_at, ring_after, producer, consumer, is_made, free, Replies}
+use Rattle.xsk_side.specs.Setting.{Setting, HasRing, size_of, pair_of}
+use Rattle.xsk_side.specs.Entries.{names, frame, times, strays_in}
+use Rattle.xsk_side.specs.Object.{Entry, RingState, ring_of, ring_at, ring_after, consumer, is_made, free, Replies}
 use Rattle.xsk_side.specs.Own.{room_of, held_of, entry_of, put_back, has_frame, source_of, is_tx_of, strays_taken}
 use Rattle.xsk_side.specs.Legal.{IsLegal, IsReceived, IsCompleted, MayCome}
 use Rattle.xsk_side.specs.Possible.{IsHistory, Possible, own}
-use Rattle.xsk_side.specs.Local.{sure_of, sure_after, back_of, back_after, given_of, strays_given, new_of, FitsEntries, FitsReply, Fits, AllFit}
-use Rattle.xsk_side.specs.declared.call.Party.{Party}
+use Rattle.xsk_side.specs.Local.{sure_of, sure_after, back_of, back_after, given_of, strays_given, new_of, FitsEntries, Fits, AllFit}
 use Rattle.xsk_side.specs.declared.call.Party.TheVariants.{Program, Kernel}
 use Rattle.xsk_side.specs.declared.call.Answer.{Answer}
 use Rattle.xsk_side.specs.declared.call.Answer.TheVariants.{Granted, Full, Refused}
 use Rattle.xsk_side.specs.declared.call.Call.{Call}
 use Rattle.xsk_side.specs.declared.call.Call.TheVariants.{Reserve, Free, Submit, Peek, Release, Cancel}
-use Rattle.xsk_side.proofs.Lists.{number, times-split}
-use Rattle.xsk_side.proofs.Rings.{entry, same_or, ring_here, ring_else, is_true, is_false, filled, rings_sound, submit_has_room}
+use Rattle.xsk_side.proofs.Lists.{number}
+use Rattle.xsk_side.proofs.Rings.{entry, same_or, ring_here, ring_else, is_true, is_false, rings_sound, submit_has_room}
 use Rattle.xsk_side.proofs.Frames.{frames_sound, out_put_back, positive}
-use Rattle.xsk_side.proofs.Bounds.{made_producer, made_consumer, unmade_producer, unmade_consumer, made_out}
+use Rattle.xsk_side.proofs.Bounds.{made_consumer, unmade_producer, made_out}
 use Rattle.xsk_side.proofs.Given.{given_sound, comes_as, some_or_none}
-use Rattle.xsk_side.proofs.Strays.{total, on_tx, strays_sound}
+use Rattle.xsk_side.proofs.Strays.{total, strays_sound}
 use Rattle.xsk_side.proofs.Fits.{made_by, shown_to, is_producer, room_is, held_is}
 
 -- ---- a history in which the kernel took all, gave back and put no more than was seen

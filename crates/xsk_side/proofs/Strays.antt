@@ -1,6 +1,6 @@
 -- Addresses that name no frame: those that were submitted on TX of a pair and haven't come stand on TX, are the kernel's, or stand on
 -- COMPLETION.
-use Rattle.std.proofs.Common.{◌≡◌, ◌≢◌, ℕ, zero, suc, ◌+◌, ◌-◌, ◌<◌, ◌≤◌, Bool, true, false, cond, List, [], ◌∷◌, ◌++◌, length, take, drop, refl, sym, ap, ◌∙◌, subst, arith, length-drop, ⊎_elim, ne_eqb}
+use Rattle.std.proofs.Common.{◌≡◌, ◌≢◌, ℕ, zero, suc, ◌+◌, ◌-◌, ◌<◌, ◌≤◌, Bool, true, false, cond, List, [], ◌∷◌, ◌++◌, length, take, drop, refl, sym, ap, ◌∙◌, subst, arith, ⊎_elim, ne_eqb}
 use Rattle.std.proofs.lemmas.Bool.{cases_eq}
 use Rattle.std.proofs.lemmas.List.{drop-append-le}
 use Rattle.xsk_umem.specs.declared.batch.XdpDesc.{XdpDesc}
@@ -10,7 +10,7 @@ use Rattle.xsk_model.specs.Rings.{is_ring}
 use Rattle.xsk_model.proofs.Places.{is_ring-self}
 use Rattle.xsk_side.specs.Setting.{Setting, HasRing, size_of, pair_of}
 use Rattle.xsk_side.specs.Entries.{strays_in}
-use Rattle.xsk_side.specs.Object.{Entry, RingState, ring_of, ring_at, ring_after, producer, consumer, is_made, Replies}
+use Rattle.xsk_side.specs.Object.{Entry, RingState, ring_of, ring_at, ring_after, producer, consumer, is_made}
 use Rattle.xsk_side.specs.Own.{put_back, source_of, is_tx_of, strays_taken}
 use Rattle.xsk_side.specs.Legal.{IsLegal, MayCome}
 use Rattle.xsk_side.specs.Possible.{IsHistory, own}
@@ -22,8 +22,8 @@ use Rattle.xsk_side.specs.declared.call.Call.TheVariants.{Reserve, Free, Submit,
 use Rattle.xsk_side.proofs.Lists.{strays-append, strays-split, strays-front, length-front}
 use Rattle.xsk_side.proofs.Rings.{entry, same_or, ring_here, ring_else, is_true, is_false, rings_sound}
 use Rattle.xsk_side.proofs.Frames.{out_put_back}
-use Rattle.xsk_side.proofs.Bounds.{made_producer, made_consumer, unmade_producer, unmade_consumer, two_parties, made_out}
-use Rattle.xsk_side.proofs.Given.{IsShown, is_shown, IsRestSound, given_sound, behind, behind-append, behind-drop, back_by, back_here, back_else}
+use Rattle.xsk_side.proofs.Bounds.{unmade_producer, unmade_consumer, two_parties}
+use Rattle.xsk_side.proofs.Given.{IsShown, is_shown, given_sound, behind, behind-append, behind-drop, back_by, back_here, back_else}
 
 -- ---- a sum over all sockets
 
