@@ -38,7 +38,11 @@ fn pass_on(bench: &mut Bench<'_>, port: u32) -> Result<bool> {
 
 /// Writes the address of a port, 02:00:00:00:00:01 or 02, over bytes 6 to 11 of the packet.
 fn write_source(item: &mut Item, port: u32) {
-    let address = if port == 0 { [2, 0, 0, 0, 0, 1] } else { [2, 0, 0, 0, 0, 2] };
+    let address = if port == 0 {
+        [2, 0, 0, 0, 0, 1]
+    } else {
+        [2, 0, 0, 0, 0, 2]
+    };
     let Some(frame) = &mut item.frame else {
         return;
     };
@@ -58,7 +62,10 @@ fn bring_home(bench: &mut Bench<'_>, port: u32) -> Result<bool> {
         bail!("an item without its frame");
     };
     let config = bench.config();
-    let home = frame.number().checked_div(config.pool()).context("a pool has frames")?;
+    let home = frame
+        .number()
+        .checked_div(config.pool())
+        .context("a pool has frames")?;
     let item = home_item(config.geometry(), frame);
     put(bench, Ring::Fill(home), item)?;
     Ok(true)

@@ -78,7 +78,12 @@ fn both(alloc: Global, first: PacketList, second: PacketList) -> Result<Vec<Pack
 }
 
 /// Writes a capture of what a port sent.
-fn write<R: Files + Print + AllocGlobal>(rt: &R, name: &String, bench: &Bench<'_>, port: u32) -> Result<()> {
+fn write<R: Files + Print + AllocGlobal>(
+    rt: &R,
+    name: &String,
+    bench: &Bench<'_>,
+    port: u32,
+) -> Result<()> {
     let sent = bench.sent(port).context("there was room for all")?;
     println!(rt; "port {port} sent {} packets", sent.len())?;
     let bytes = capture_of(rt.alloc(), sent)?;
