@@ -236,14 +236,7 @@ fn sends_all<R: Threads + Wait + Sync>(rt: &R, alloc: Global, run: Run<'_>) -> b
     requires { AreHands run.hands }
 {
     let (odd, even) = (Wanted::all(ODD), Wanted::all(EVEN));
-    sends(
-        rt,
-        alloc,
-        run,
-        [ALL, ALL],
-        &Open,
-        &[odd, even, odd, even],
-    )
+    sends(rt, alloc, run, [ALL, ALL], &Open, &[odd, even, odd, even])
 }
 
 /// Whether a run on threads sends these packets of the first port by the second.
@@ -276,7 +269,16 @@ fn threads_that_close_a_socket_send_the_first(rt: HostRuntime) {
     layout.close = Some(0);
     let some = Wanted::first(ALL, 0);
     for _ in 0..4 {
-        assert!(rt; sends(&rt, rt.alloc(), Run::of(&layout), [ALL, ALL], &Open, &[some, some]));
+        assert!(rt;
+            sends(
+                &rt,
+                rt.alloc(),
+                Run::of(&layout),
+                [ALL, ALL],
+                &Open,
+                &[some, some]
+            )
+        );
     }
 }
 
@@ -292,7 +294,16 @@ fn a_socket_that_is_closed_behind_traffic_has_sent_what_came_before(rt: HostRunt
     let open = Wanted::all(EVEN);
     let run = Run::of(&layout).after(50);
     for _ in 0..4 {
-        assert!(rt; sends(&rt, rt.alloc(), run, [ALL, ALL], &Open, &[ended, open, begun, open]));
+        assert!(rt;
+            sends(
+                &rt,
+                rt.alloc(),
+                run,
+                [ALL, ALL],
+                &Open,
+                &[ended, open, begun, open]
+            )
+        );
     }
 }
 

@@ -78,12 +78,7 @@ fn take_turn<W: Turns, G: Gate>(shared: &Shared, gate: &G, turn: u64, member: &m
 }
 
 /// Makes a turn of this number of each member that hasn't ended. Says what came of all of them together.
-fn take_turns<W: Turns, G: Gate>(
-    shared: &Shared,
-    gate: &G,
-    turn: u64,
-    members: &mut Vec<W>,
-) -> Pace
+fn take_turns<W: Turns, G: Gate>(shared: &Shared, gate: &G, turn: u64, members: &mut Vec<W>) -> Pace
     requires { All (λ w. IsSeatOn shared.now (W.seat w)) members.old.items }
     ensures belong { All (λ w. IsSeatOn shared.now (W.seat w)) members.new.items }
     ensures count { vec_len members.new ≡ vec_len members.old }
