@@ -71,6 +71,7 @@ struct xsk_record_thread {
 	char *at, *end, *buffer; /* where the next record goes, and the buffer that has it */
 	struct xsk_record_header *header;
 	struct xsk_record_thread *next;
+	uint64_t most; /* bytes of the file */
 	int descriptor;
 	uint32_t changes;		    /* calls that changed something */
 	uint8_t told[XSK_RECORD_RINGS + 1]; /* whether the file has the ring's description */
@@ -157,7 +158,7 @@ XSK_RECORD_INLINE int xsk_record_open(struct xsk_record_thread *t, const char *p
 	int length = snprintf(name, sizeof name, "%s.%u.%u", prefix, (unsigned)xsk_record_process, (unsigned)thread), fault;
 	if (length < 0 || (size_t)length >= sizeof name)
 		return ENAMETOOLONG;
-	t->descriptor = open(name, O_RDWR | O_CREAT | O_TRUNC | O_CLOEXEC, 0600);
+	t->descriptor = (int)syscall(SYS_openat, AT_FDCWD, name, O_RDWR | O_CREAT | O_TRUNC | O_CLOEXEC, 0600);
 	if (t->descriptor < 0)
 		return errno;
 	buffer = (uint64_t)xsk_record_setting("XSK_RECORD_AHEAD", 0) << 20;
@@ -177,6 +178,7 @@ XSK_RECORD_INLINE int xsk_record_open(struct xsk_record_thread *t, const char *p
 	header->clock = xsk_record_clock;
 	header->buffer = buffer;
 	t->header = header;
+	t->most = (uint64_t)xsk_record_setting("XSK_RECORD_MB", 1024) << 20;
 	t->buffer = t->at = (char *)header + XSK_RECORD_HEADER;
 	t->end = t->buffer + buffer;
 	memset(t->buffer, 0, buffer);
@@ -243,18 +245,27 @@ XSK_RECORD_INLINE struct xsk_record_thread *xsk_record_here(void)
 
 /* ----------------------------------------------------------------------------------------------------------------------- records */
 
+/* pwrite(), which would be a place where a thread can be cancelled. */
+XSK_RECORD_INLINE ssize_t xsk_record_write(int descriptor, const char *bytes, size_t size, uint64_t at)
+{
+#ifdef __LP64__
+	return syscall(SYS_pwrite64, descriptor, bytes, size, at);
+#else
+	return pwrite(descriptor, bytes, size, (off_t)at);
+#endif
+}
+
 /* Stores the buffer at the end of the file and begins the other one; 0, or an errno. Which records there are changes in one write. */
 XSK_RECORD_INLINE int xsk_record_store(struct xsk_record_thread *t)
 {
 	uint64_t buffer = t->header->buffer, state = t->header->state, stored = state >> 1, start = XSK_RECORD_HEADER + 2 * buffer;
-	uint64_t most = (uint64_t)xsk_record_setting("XSK_RECORD_MB", 1024) << 20;
 	char *other = (char *)t->header + XSK_RECORD_HEADER + (state & 1 ? 0 : buffer);
 	size_t size = (size_t)(t->at - t->buffer), done = 0;
 	struct rlimit largest;
-	if (start + stored + size > most || (!getrlimit(RLIMIT_FSIZE, &largest) && start + stored + size > largest.rlim_cur))
+	if (start + stored + size > t->most || (!getrlimit(RLIMIT_FSIZE, &largest) && start + stored + size > largest.rlim_cur))
 		return EFBIG;
 	while (done < size) {
-		ssize_t wrote = pwrite(t->descriptor, t->buffer + done, size - done, (off_t)(start + stored + done));
+		ssize_t wrote = xsk_record_write(t->descriptor, t->buffer + done, size - done, start + stored + done);
 		if (wrote < 0 && errno != EINTR)
 			return errno;
 		done += wrote > 0 ? (size_t)wrote : 0;

@@ -19,7 +19,7 @@
 #include <time.h>
 #include <unistd.h>
 
-enum { FRAMES = 1024, CHUNK = 4096, RING = 512, BATCH = 32 };
+enum { FRAMES = 512, CHUNK = 4096, RING = 256, BATCH = 32 };
 enum mistake {
 	NONE,
 	FILL_TWICE,
@@ -168,7 +168,7 @@ static void set_up(char **names)
 		port->ifname = names[p];
 		must(port->ifname, xsk_socket__create_shared(&port->xsk, port->ifname, 0, umem, &port->rx, &port->tx, &port->fill,
 					   &port->completion, &sockets));
-		refill(port, FRAMES / 4);
+		refill(port, FRAMES / 2);
 	}
 }
 
