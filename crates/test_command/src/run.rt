@@ -11,12 +11,11 @@ use crate::show::{Shown, show};
 use anyhow::{Result, anyhow};
 use std::alloc::{AllocError, Global};
 use std::fmt::Write;
-use std::rt::Files;
 use std::sync::Wait;
 use std::thread::Threads;
 use xsk_cli::{Ended, Status, ThreadRun, run_plain};
-use xsk_gate::{Gate, Open};
-use xsk_io::{Bay, FileBay, MemoryBay};
+use xsk_gate::Gate;
+use xsk_io::{Bay, MemoryBay};
 
 /// How a command ended, and what its run on threads shows.
 #[derive(Clone, Copy)]
@@ -25,28 +24,33 @@ struct Told {
     shown: Shown,
 }
 
-/// Runs the command of a line, with threads for `forward`, and tells how it ended and what it left.
+/// Runs the command of a line, with threads for `forward`, and tells how it ended and what it left. What was said of the run is
+/// forgotten.
 pub(crate) fn run<R: Threads + Wait + Sync>(
     rt: &R,
+    host: &HostRuntime,
     alloc: Global,
-    case: &Case,
+    case: &mut Case,
     line: &str,
     told: &mut String,
 ) -> Result<()> {
     writeln!(told, "> {line}")?;
     let words = words_of(alloc, line)?;
-    run_words(rt, alloc, case, words.as_slice(), told)
+    run_words(rt, host, alloc, case, words.as_slice(), told)?;
+    case.forget();
+    Ok(())
 }
 
 fn run_words<R: Threads + Wait + Sync>(
     rt: &R,
+    host: &HostRuntime,
     alloc: Global,
     case: &Case,
     words: &[String],
     told: &mut String,
 ) -> Result<()> {
     let mut bay = bay_of(alloc, case)?;
-    let ended = run_held(rt, alloc, case, words, &mut bay, told)?;
+    let ended = run_held(rt, host, alloc, case, words, &mut bay, told)?;
     show(alloc, case, ended.status, ended.shown, &bay, told)?;
     Ok(())
 }
@@ -54,6 +58,7 @@ fn run_words<R: Threads + Wait + Sync>(
 /// Runs a command over the gate of a case.
 fn run_held<R: Threads + Wait + Sync, B: Bay>(
     rt: &R,
+    host: &HostRuntime,
     alloc: Global,
     case: &Case,
     words: &[String],
@@ -63,40 +68,23 @@ fn run_held<R: Threads + Wait + Sync, B: Bay>(
     requires { NoneOpen (B.moment bay.old) }
 {
     let gate = RunGate::of(case.next.holds)?;
-    let ended = through(rt, alloc, words, bay, &gate);
+    let ended = through(rt, host, alloc, words, bay, &gate);
     gate.tell(told)?;
     Ok(ended)
 }
 
-/// Runs the command of a line over files, and tells how it ended. What it reports is printed at once.
-pub(crate) fn run_over_files<R: Files + Print + Threads + Wait + Sync>(
-    rt: &R,
+/// Runs the command of a line without threads, and tells how it ended and what it left.
+pub(crate) fn run_alone(
     alloc: Global,
+    case: &mut Case,
     line: &str,
     told: &mut String,
 ) -> Result<()> {
-    println!(rt; "> {line}")?;
-    let words = words_of(alloc, line)?;
-    let status = ended_over_files(rt, alloc, words.as_slice());
-    writeln!(told, "{status:?}, {}", status.exit_status())?;
-    Ok(())
-}
-
-/// How a command ends over files.
-fn ended_over_files<R: Files + Print + Threads + Wait + Sync>(
-    rt: &R,
-    alloc: Global,
-    words: &[String],
-) -> Status {
-    let mut bay = FileBay::new(rt);
-    through(rt, alloc, words, &mut bay, &Open).status
-}
-
-/// Runs the command of a line without threads, and tells how it ended and what it left.
-pub(crate) fn run_alone(alloc: Global, case: &Case, line: &str, told: &mut String) -> Result<()> {
     writeln!(told, "> {line}")?;
     let words = words_of(alloc, line)?;
-    run_words_alone(alloc, case, words.as_slice(), told)
+    run_words_alone(alloc, case, words.as_slice(), told)?;
+    case.forget();
+    Ok(())
 }
 
 fn run_words_alone(alloc: Global, case: &Case, words: &[String], told: &mut String) -> Result<()> {
@@ -150,6 +138,7 @@ fn bay_of(alloc: Global, case: &Case) -> Result<MemoryBay>
 
 fn through<R: Threads + Wait + Sync, B: Bay, G: Gate + Sync>(
     rt: &R,
+    host: &HostRuntime,
     alloc: Global,
     words: &[String],
     bay: &mut B,
@@ -160,7 +149,7 @@ fn through<R: Threads + Wait + Sync, B: Bay, G: Gate + Sync>(
     let Ended { status, outcome } = xsk_cli::run(rt, alloc, words, bay, gate);
     Told {
         status,
-        shown: shown_by(outcome),
+        shown: shown_by(host, outcome),
     }
 }
 
@@ -171,12 +160,12 @@ fn alone<B: Bay>(alloc: Global, words: &[String], bay: &mut B) -> Status
 }
 
 /// What a run on threads shows, which is given up.
-fn shown_by(outcome: Option<ThreadRun>) -> Shown {
+fn shown_by(host: &HostRuntime, outcome: Option<ThreadRun>) -> Shown {
     let Some(run) = outcome else {
         return Shown::Nothing;
     };
     let calls = run.figures().calls;
-    run.give_up();
+    run.give_up(host);
     if calls == 0 {
         Shown::NoCalls
     } else {

@@ -5,8 +5,8 @@
 use crate::case::Case;
 use crate::line::{Fault, Line};
 use crate::told::Told;
-use xsk_umem::XdpDesc;
 use xsk_table::{CONSUMER, ENTRIES, PRODUCER, pack, unpack, used};
+use xsk_umem::XdpDesc;
 
 #[derive(Drop)]
 pub struct Packed;

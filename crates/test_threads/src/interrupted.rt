@@ -55,11 +55,11 @@ impl Seek for OneByte {
 
 impl OpenFile for OneByte {
     fn metadata(&self) -> io::Result<Metadata> {
-        refused()
+        Ok(Metadata::of_file(1))
     }
 
     fn set_len(&self, _size: u64) -> io::Result<()> {
-        refused()
+        Ok(())
     }
 
     fn sync_all(&self) -> io::Result<()> {

@@ -2,7 +2,7 @@
 ghost use Rattle.std.specs.Prelude.{◌≡◌, IfSome, Some};
 ghost use Rattle.xsk_model.specs.Expected.{Expected, CanCome, expected_by, expected_of, nothing};
 
-use crate::texts::{tell_act, tell_disposal, tell_number, tell_packets};
+use crate::texts::{tell_act, tell_disposal, tell_last, tell_number, tell_packets};
 use crate::trouble::Trouble;
 use std::mem;
 use xsk_app::App;
@@ -37,6 +37,7 @@ impl Worker for Driver<'_> {
         let told = match line {
             "parked" => tell_parked(self.parked(), text),
             "disposals" => tell_disposals(self.disposals(), text),
+            "counters" => tell_counters(self, text),
             "sent" => tell_sent(self, text),
             _ => return Ok(false),
         };
@@ -67,6 +68,18 @@ fn tell_disposals(disposals: &[Disposal], text: &mut String) -> Result<(), Troub
     }
     text.push('\n')?;
     Ok(())
+}
+
+/// What was lost on receiving.
+fn tell_counters(driver: &Driver<'_>, text: &mut String) -> Result<(), Trouble> {
+    let counters = driver.counters();
+    tell_number("counters: rx_dropped ", counters.rx_dropped, text)?;
+    tell_number(" rx_invalid_descs ", counters.rx_invalid_descs, text)?;
+    tell_last(
+        " rx_fill_ring_empty_descs ",
+        counters.rx_fill_ring_empty_descs,
+        text,
+    )
 }
 
 /// The packets that were sent, or that they were too many for their room.

@@ -4,18 +4,15 @@
 //! `wire`, `mangle`, `after`, `frame`: see the modules), a line that says what is played, and what goes on with it:
 //!
 //! - `driver PAIR PACKETS BYTES` and `app NUMBER`: a worker by hand. Each further line is a reply to its last call, in the
-//!   form of the journal, or a question (`parked`, `disposals`, `sent`, `room`). Each call is printed with its reply as the
+//!   form of the journal, or a question (`parked`, `disposals`, `counters`, `sent`, `room`). Each call is printed with its reply as the
 //!   journal has it, and the last one, which got none, with `?`. A line `frames` prints the frames that the worker has, and ends
 //!   the script. A line `asked` before it prints how often the driver's program was asked.
 //! - `run ORDER`: all workers in rounds, with what came of it. A further line `journal` prints all calls, and `find TEXT`
 //!   says whether the journal has the text.
-//! - `config`: the configuration. Further lines ask for its parts.
-//! - `traffic FRAMES`: sockets set up one by one, and the object opened over them.
 //! - `ends`: the ends of an application by hand, beside drivers of a table.
 #![tactic(auto)]
 
 mod attached;
-mod cells;
 mod ends;
 mod hand;
 mod layout;
@@ -27,7 +24,6 @@ mod rounds;
 mod script;
 mod shelf;
 mod texts;
-mod traffic;
 mod trouble;
 mod words;
 

@@ -2,7 +2,12 @@
 #![tactic(auto)]
 
 use std::process::ExitCode;
+use xsk_io::FileBay;
+use xsk_program::{answer, words_of};
 
+/// Does what the program's words say, over files, and ends with the status of the answer.
 fn main(rt: HostRuntime) -> ExitCode {
-    ExitCode::from(xsk_program::run(&rt))
+    let mut bay = FileBay::new(&rt);
+    let ended = answer(&rt, rt.alloc(), words_of(&rt), &mut bay);
+    ended.into_exit_code(&rt)
 }

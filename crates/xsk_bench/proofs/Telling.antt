@@ -3,6 +3,7 @@ use Rattle.std.proofs.Common.{◌≡◌, true, false, append-nil, refl, arith}
 use Rattle.xsk_model.specs.Entry.{own}
 use Rattle.xsk_model.specs.Sent.{all_sent}
 use Rattle.xsk_model.specs.declared.call.Ring.TheVariants.{Fill, Comp, Rx, Tx}
+use Rattle.xsk_model.specs.declared.call.Mark.TheVariants.{Bounced}
 use Rattle.xsk_model.specs.declared.call.Call.TheVariants.{Reserve, Submit, Peek, Release, Swap, Look}
 use Rattle.xsk_model.specs.declared.call.Act.TheVariants.{Call as Gave, Ended}
 use Rattle.xsk_turns.specs.Sending.{bouncing}
@@ -30,5 +31,6 @@ sent_so_far c input h pair (Gave (Submit (Rx s) items)) none = append-nil (all_s
 sent_so_far c input h pair (Gave (Submit (Tx s) items)) none = append-nil (all_sent c (bouncing input) h pair)
 sent_so_far c input h pair (Gave (Peek r n)) none = append-nil (all_sent c (bouncing input) h pair)
 sent_so_far c input h pair (Gave (Release r n)) none = append-nil (all_sent c (bouncing input) h pair)
+sent_so_far c input h pair (Gave (Swap (Bounced d) value)) none = let no : true ≡ false = none in cc
 sent_so_far c input h pair (Gave (Swap m value)) none = append-nil (all_sent c (bouncing input) h pair)
 sent_so_far c input h pair (Gave (Look m)) none = append-nil (all_sent c (bouncing input) h pair)

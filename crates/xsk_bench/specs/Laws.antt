@@ -1,12 +1,12 @@
 -- Laws of histories with a bench. Each is the contract of a function of its own.
-use Rattle.std.specs.Prelude.{◌≡◌, ℕ, ◌<◌, Bool, false, List, length}
+use Rattle.std.specs.Prelude.{◌≡◌, ℕ, ◌<◌, Bool, ◌||◌, false, List, length}
 use Rattle.xsk_umem.specs.Frame.{Frame}
 use Rattle.xsk_model.specs.Config.{Config}
 use Rattle.xsk_model.specs.Entry.{Entry, own}
 use Rattle.xsk_model.specs.Sent.{all_sent}
 use Rattle.xsk_model.specs.declared.call.Act.{Act}
 use Rattle.xsk_model.specs.declared.call.Act.TheVariants.{Call as Gave, Ended}
-use Rattle.xsk_turns.specs.Sending.{is_completing, bouncing, sent_by_act}
+use Rattle.xsk_turns.specs.Sending.{is_completing, is_bouncing, bouncing, sent_by_act}
 use Rattle.xsk_turns.specs.Turns.{Judged}
 use Rattle.xsk_turns.specs.Workers.{Setting, IsWorkerRun}
 use Rattle.xsk_bench.specs.Played.{HasPlayed}
@@ -16,12 +16,12 @@ use Rattle.xsk_bench.specs.declared.play.Play.{Play}
 abbrev pub DriversRun : Type 0
 DriversRun = (s : Setting) (frames : List Frame) (h : List Entry) (p : Play) (who : ℕ) → HasPlayed s frames h p → who < length s.config.pairs → IsWorkerRun s who (own who h)
 
--- an act that gives back the frames of a packet that was sent
-abbrev pub gives_back : Act → Bool
-gives_back (Gave call) = is_completing call
-gives_back Ended = false
+-- an act that sends a packet as it is given: it gives back the frames of one, or counts one as bounced
+abbrev pub sends_one : Act → Bool
+sends_one (Gave call) = is_completing call || is_bouncing call
+sends_one Ended = false
 
 -- where a driver's next act isn't one, what it sent with this act counted as made is what it sent in the history
 abbrev pub SentSoFar : Type 0
-SentSoFar = (c : Config) (input : List Judged) (h : List Entry) (pair : ℕ) (act : Act) → gives_back act ≡ false
+SentSoFar = (c : Config) (input : List Judged) (h : List Entry) (pair : ℕ) (act : Act) → sends_one act ≡ false
     → sent_by_act c pair input (own pair h) act ≡ all_sent c (bouncing input) h pair

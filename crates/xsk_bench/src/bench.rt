@@ -131,6 +131,7 @@ impl<'a> Bench<'a> {
     /// the log are as they were. Why it isn't legal is told: the first of its conditions that fails. An application that doesn't
     /// exist may make no call.
     pub fn serve(&mut self, app: u32, ask: Ask, items: &mut Batch) -> Result<Answer, Unserved>
+        ensures room { self.new.room ≡ self.old.room }
         ensures stray { (result ≡ Err Unserved.StrayItems) ↔ (HasAsked ask items.old → ⊥) }
         ensures illegal { IsIllegal result
             ↔ (HasAsked ask items.old × (IsLegal self.old.checked.config (own (caller_of self.old.checked.config app) self.old.checked.log) (caller_of self.old.checked.config app) (joined_call ask items.old) → ⊥)) }
@@ -146,7 +147,8 @@ impl<'a> Bench<'a> {
     /// neither the object nor the number of a driver's packets that have their disposals. Where memory for the log can't be had,
     /// no call is made.
     pub fn round(&mut self) -> Result<bool, OutOfMemory>
-        ensures { (s : Setting) (frames : List Frame) (h : List Entry) → HasPlayed s frames h self.old → HadRound s frames h self.new result }
+        ensures room { self.new.room ≡ self.old.room }
+        ensures round { (s : Setting) (frames : List Frame) (h : List Entry) → HasPlayed s frames h self.old → HadRound s frames h self.new result }
     {
         self.play.round()
     }
@@ -155,7 +157,8 @@ impl<'a> Bench<'a> {
     /// for 64 rounds. Then each has ended, or is parked, or nothing that it looks at lets it go on before an application makes
     /// a call. Where memory for the log can't be had, the rounds so far were made.
     pub fn run_drivers(&mut self, most_rounds: u32) -> Result<bool, OutOfMemory>
-        ensures { (s : Setting) (frames : List Frame) (h : List Entry) → HasPlayed s frames h self.old → HadRounds s frames h most_rounds self.new result }
+        ensures room { self.new.room ≡ self.old.room }
+        ensures rounds { (s : Setting) (frames : List Frame) (h : List Entry) → HasPlayed s frames h self.old → HadRounds s frames h most_rounds self.new result }
     {
         self.play.run(most_rounds)
     }
@@ -184,9 +187,9 @@ impl<'a> Bench<'a> {
         self.play.checked.lines()
     }
 
-    /// What the driver of a pair sent so far, with the packets that it bounced; a packet whose frames its next call gives back
-    /// counts as sent, and one that its next call bounces doesn't yet. There is none where there is no such pair, or it sent more
-    /// than there was room for.
+    /// What the driver of a pair sent so far, with the packets that it bounced; its next call counts as made, so a packet whose frames
+    /// it gives back counts as sent, and one that it bounces. There is none where there is no such pair, or it sent more than there
+    /// was room for.
     pub fn sent(&self, pair: u32) -> Option<&PacketList>
         ensures none { length self.now.seats.items ≤ pair → IsNone result }
         ensures sent { (s : Setting) (frames : List Frame) (h : List Entry) (seat : ASeat) → HasPlayed s frames h self.now → slice_get self.now.seats.items pair ≡ Some seat

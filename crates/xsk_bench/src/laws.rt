@@ -8,7 +8,8 @@ pub fn drivers_run()
     ensures { DriversRun }
 {}
 
-/// Where a driver's next call isn't a Submit on COMPLETION, what `Bench::sent` tells is what the driver sent in the history.
+/// Where a driver's next call neither is a Submit on COMPLETION nor counts a bounced packet, what `Bench::sent` tells is what the driver
+/// sent in the history.
 #[tactic(auto, using(crate::proofs::Telling::sent_so_far))]
 pub fn sent_so_far()
     ensures { SentSoFar }

@@ -306,12 +306,12 @@ module _ (layout : Layout) (programs : List Program) (wire : Wire) (manner : Man
   shown_in_file count_is within each_short = all_in_file layout.hands layout programs wire manner lists accepted o.history shown.legal shown.whole o.sent shown.sent pairs count_is within each_short
 
 -- a layout and a manner that go together can be run by the layout's hands
-pub hands_suit : (layout : Layout) (manner : Manner) → suits_hands layout manner ≡ true → SuitHands layout.hands (regular_of layout) (unmangled manner)
+pub hands_suit : (layout : Layout) (manner : Manner) → suits_hands layout manner ≡ true → SuitHands layout.hands (regular_of layout)
 hands_suit layout manner is = ⊎_elim
     (λ (one : (layout.hands == 1) ≡ true). inl (eqb-true layout.hands 1 one))
     (λ (rest : (not (is_some layout.close) && manner.after == 0) ≡ true).
     let both = and_parts (not (is_some layout.close)) (manner.after == 0) rest in
-    inr (nothing layout.close both.0, ap (λ (n : ℕ). (let m : Manner = record { mangle = None; after = n } in m)) (eqb-true manner.after 0 both.1)))
+    inr (nothing layout.close both.0))
     (or_cases (layout.hands == 1) (not (is_some layout.close) && manner.after == 0) is)
   where
     nothing : (o : Option ℕ) → not (is_some o) ≡ true → o ≡ None
@@ -369,12 +369,12 @@ module _ {F : Type 0} (g : Shared F (Bor (List ℕ) × (ℕ × Unit {0})) Verdic
       let s : Setting = setting_by c wire manner own verdicts in
       subst (λ rules. IsRuled rules s) are_rules (asked_ruled g chain s asked)
 
-  pub ended_under : (run : Shown) → HasEndedUnder g chain wire manner c own fs order run → HasEnded (setting_of layout programs wire manner lists) (frames_of layout) order run
-  ended_under run under = ended_as layout programs wire manner order c own fs lists run is_config is_own is_frames under.verdicts (ruled under.verdicts under.asked) under.ended
+  pub ended_under : (after : List (XdpProgram F)) (run : Shown) → HasEndedUnder g chain after wire manner c own fs order run → HasEnded (setting_of layout programs wire manner lists) (frames_of layout) order run
+  ended_under after run under = ended_as layout programs wire manner order c own fs lists run is_config is_own is_frames under.verdicts (ruled under.verdicts under.asked) under.ended
 
   -- and so one fails
-  pub failed_under : (error : SimError) → ((round : ℕ) → error ≡ HasNoEnd round → HasStalledUnder g chain wire manner c own fs order round) → FailsRunning layout programs wire manner order lists (sim_failure error)
-  failed_under (HasNoEnd round) stalled =
+  pub failed_under : (after : List (XdpProgram F)) (error : SimError) → ((round : ℕ) → error ≡ HasNoEnd round → HasStalledUnder g chain after wire manner c own fs order round) → FailsRunning layout programs wire manner order lists (sim_failure error)
+  failed_under after (HasNoEnd round) stalled =
       let under = stalled round refl in
       stalled_as layout programs wire manner order c own fs lists round is_config is_own is_frames under.verdicts (ruled under.verdicts under.asked) under.stalled
-  failed_under RunMemory stalled = tt
+  failed_under after RunMemory stalled = tt

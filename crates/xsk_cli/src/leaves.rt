@@ -6,7 +6,6 @@ ghost use Rattle.std.specs.List.{slice_index_or};
 ghost use Rattle.xsk_pcap.specs.Written.{IsWritable};
 ghost use Rattle.xsk_cli.specs.Outcome.{capture_of};
 
-use crate::thread_run::ThreadRun;
 use xsk_machine::Sent;
 use xsk_pcap::CaptureHeaders;
 
@@ -31,17 +30,6 @@ impl Leaves for Sent {
             return None;
         }
         Sent::lay(self, pair, &CaptureHeaders)
-    }
-}
-
-impl Leaves for ThreadRun {
-    ghost sent = { λ r. r.sent };
-
-    fn lay(&mut self, pair: u32) -> Option<&[u8]> {
-        if pair as usize >= self.outcome.lists().len() {
-            return None;
-        }
-        self.outcome.lay(pair, &CaptureHeaders)
     }
 }
 

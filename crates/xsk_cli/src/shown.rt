@@ -4,10 +4,9 @@ ghost use Rattle.std.specs.List.{range_with_len};
 ghost use Rattle.xsk_driver.specs.Sent.{IsShort};
 ghost use Rattle.xsk_machine.specs.Acts.{HasShortPackets};
 ghost use Rattle.xsk_model.specs.Config.{IsRegular};
-ghost use Rattle.xsk_model.specs.Opening.{AreFrames};
 ghost use Rattle.xsk_pcap.specs.Written.{IsWritable};
 ghost use Rattle.xsk_pcapng.specs.Written.{IsWritable as IsWritableFile};
-ghost use Rattle.xsk_socket.specs.Layout.{fault_of, geometry_of, pairs_in};
+ghost use Rattle.xsk_socket.specs.Layout.{fault_of, pairs_in};
 ghost use Rattle.xsk_socket.specs.Regular.{regular_of};
 ghost use Rattle.xsk_stats.specs.Report.{report_text};
 ghost use Rattle.xsk_workers.specs.Forwarded.{HasForwarded, OutcomeShown};
@@ -26,10 +25,9 @@ use crate::failure::RunFailure;
 use crate::files::spare_text;
 use crate::format::Format;
 use crate::lists::take_lists;
-use crate::programs::chain_of;
 use crate::setup::set_up;
 use crate::texts::{Texts, sent_outputs};
-use crate::thread_run::ThreadRun;
+use crate::thread_run::{ThreadRun, forward_lists};
 use crate::words::{Plan, Work};
 use std::alloc::Global;
 use std::sync::Wait;
@@ -38,12 +36,10 @@ use xsk_args::ProgramList;
 use xsk_gate::Gate;
 use xsk_io::Bay;
 use xsk_model::Config;
-use xsk_prog::{Rule, XdpProgram};
 use xsk_socket::Layout;
 use xsk_stats::report;
 use xsk_turns::{Manner, Wire};
-use xsk_umem::{Frames, OutOfMemory, PacketList};
-use xsk_workers::forward;
+use xsk_umem::{OutOfMemory, PacketList};
 
 /// Texts are made by a run on threads.
 struct OnThreads;
@@ -233,59 +229,7 @@ fn shown_texts(
     ensures report { IfOk result (λ texts. texts.report.items ≡ report_text config.now shown.now.figures) }
 {
     let report = report(alloc, config, shown.figures())?;
-    let sent = shown.outcome.lists();
+    let sent = shown.lists();
     let outputs = sent_outputs(alloc, format, layout.ports, layout.queues, spare, sent)?;
     Ok(Texts { outputs, report })
-}
-
-/// Runs the lists of all ports on threads under the programs' rules, with the wire. Applications change no item.
-#[allow(clippy::too_many_arguments)]
-fn forward_lists<R: Threads + Wait + Sync, G: Gate + Sync>(
-    rt: &R,
-    alloc: Global,
-    layout: &Layout,
-    config: Config,
-    frames: Frames,
-    programs: &ProgramList,
-    wire: Wire,
-    manner: Manner,
-    lists: &[PacketList],
-    gate: &G,
-) -> Result<ThreadRun, OutOfMemory>
-    requires accepted { fault_of layout.now ≡ None }
-    requires config { config ≡ regular_of layout.now }
-    requires regular { IsRegular config }
-    requires suits { suits_hands layout.now manner ≡ true }
-    requires frames { frames.items ≡ frames_of layout.now }
-    requires known { AreFrames (geometry_of layout.now) frames.items }
-    requires ports { length lists.now ≡ layout.now.ports }
-    requires listed { lists.now ≡ map listed (lists_in lists.now) }
-    requires short { All HasShortPackets lists.now }
-    ensures pairs { IfOk result (λ o. length o.sent ≡ pairs_in layout.now) }
-    ensures short { IfOk result (λ o. All (λ (list : List (List ℕ)). All IsShort list) o.sent) }
-    ensures forwarded { IfOk result (HasForwarded layout.now.hands (setting_of layout.now programs.now wire (unmangled manner) (lists_in lists.now)) (frames_of layout.now)) }
-{
-    let mut chain = chain_of(alloc, programs.as_slice(), layout.sockets, |rule: Rule| {
-        XdpProgram::attach(
-            rule,
-            move |packet: &[u8], queue: u32| rule.verdict(packet, queue),
-        )
-    })?;
-    let manner = Manner {
-        mangle: None,
-        after: manner.after,
-    };
-    let outcome = forward(
-        rt,
-        alloc,
-        config,
-        frames,
-        lists,
-        &mut chain,
-        wire,
-        gate,
-        manner,
-        layout.hands,
-    )?;
-    Ok(ThreadRun { outcome })
 }

@@ -1,17 +1,39 @@
-//! What a run on threads shows, from where it has ended.
-ghost use Rattle.std.specs.Prelude.{◌≡◌, ◌<◌, [], All, length};
+//! The run of a command on threads, and what it shows from where it has ended.
+ghost use Rattle.std.specs.Prelude.{◌≡◌, ℕ, ◌<◌, [], All, IfOk, List, length, map, true};
 ghost use Rattle.std.specs.List.{slice_index_or};
 ghost use Rattle.xsk_driver.specs.Sent.{IsShort};
+ghost use Rattle.xsk_machine.specs.Acts.{HasShortPackets, packets_in};
+ghost use Rattle.xsk_model.specs.Config.{IsRegular};
+ghost use Rattle.xsk_model.specs.Opening.{AreFrames};
+ghost use Rattle.xsk_socket.specs.Layout.{fault_of, geometry_of, pairs_in};
+ghost use Rattle.xsk_socket.specs.Regular.{regular_of};
+ghost use Rattle.xsk_workers.specs.Forwarded.{HasForwarded};
+ghost use Rattle.xsk_cli.specs.Forward.{unmangled};
+ghost use Rattle.xsk_cli.specs.Outcome.{frames_of, listed, setting_of};
+ghost use Rattle.xsk_cli.specs.Steps.{lists_in};
+ghost use Rattle.xsk_cli.specs.Words.{suits_hands};
 
+use crate::leaves::Leaves;
+use crate::programs::chain_of;
+use std::alloc::Global;
 use std::marker::Model;
+use std::sync::Wait;
+use std::thread::Threads;
+use xsk_args::ProgramList;
+use xsk_gate::Gate;
 use xsk_machine::Figures;
-use xsk_umem::PacketList;
-use xsk_workers::Outcome;
+use xsk_model::Config;
+use xsk_pcap::CaptureHeaders;
+use xsk_prog::{Rule, XdpProgram};
+use xsk_socket::Layout;
+use xsk_turns::{Manner, Wire};
+use xsk_umem::{Frames, OutOfMemory, PacketList};
+use xsk_workers::{Outcome, forward};
 
-/// What a run on threads shows, as an [`Outcome`]. It isn't `Drop`, so that no run is lost on the way: who is done with it gives it
-/// up.
+/// What a run on threads shows, as an [`Outcome`]. It isn't `Drop`, and [`give_up`](ThreadRun::give_up) wants what `main` and tests
+/// alone have. So no command loses a run that has ended: whatever else it answers, this comes back.
 pub struct ThreadRun {
-    pub(crate) outcome: Outcome,
+    outcome: Outcome,
 }
 
 impl Model for ThreadRun {
@@ -32,6 +54,13 @@ impl ThreadRun {
         self.outcome.sent(pair)
     }
 
+    /// What the drivers sent, by their pairs.
+    pub(crate) fn lists(&self) -> &[PacketList]
+        ensures { map packets_in result.now ≡ self.now.sent }
+    {
+        self.outcome.lists()
+    }
+
     /// What the run comes to in numbers, each a count over the calls and replies of its history.
     pub fn figures(&self) -> &Figures
         ensures { result.now ≡ self.now.figures }
@@ -39,8 +68,71 @@ impl ThreadRun {
         self.outcome.figures()
     }
 
-    /// Gives up what the run shows.
-    pub fn give_up(self) {
+    /// Gives up what the run shows, where the program or the test ends.
+    pub fn give_up(self, _rt: &HostRuntime) {
         let ThreadRun { outcome: _given_up } = self;
     }
+}
+
+impl Leaves for ThreadRun {
+    ghost sent = { λ r. r.sent };
+
+    fn lay(&mut self, pair: u32) -> Option<&[u8]> {
+        if pair as usize >= self.outcome.lists().len() {
+            return None;
+        }
+        self.outcome.lay(pair, &CaptureHeaders)
+    }
+}
+
+/// Runs the lists of all ports on threads under the programs' rules, with the wire. Applications change no item.
+#[allow(clippy::too_many_arguments)]
+pub(crate) fn forward_lists<R: Threads + Wait + Sync, G: Gate + Sync>(
+    rt: &R,
+    alloc: Global,
+    layout: &Layout,
+    config: Config,
+    frames: Frames,
+    programs: &ProgramList,
+    wire: Wire,
+    manner: Manner,
+    lists: &[PacketList],
+    gate: &G,
+) -> Result<ThreadRun, OutOfMemory>
+    requires accepted { fault_of layout.now ≡ None }
+    requires config { config ≡ regular_of layout.now }
+    requires regular { IsRegular config }
+    requires suits { suits_hands layout.now manner ≡ true }
+    requires frames { frames.items ≡ frames_of layout.now }
+    requires known { AreFrames (geometry_of layout.now) frames.items }
+    requires ports { length lists.now ≡ layout.now.ports }
+    requires listed { lists.now ≡ map listed (lists_in lists.now) }
+    requires short { All HasShortPackets lists.now }
+    ensures pairs { IfOk result (λ o. length o.sent ≡ pairs_in layout.now) }
+    ensures short { IfOk result (λ o. All (λ (list : List (List ℕ)). All IsShort list) o.sent) }
+    ensures forwarded { IfOk result (HasForwarded layout.now.hands (setting_of layout.now programs.now wire (unmangled manner) (lists_in lists.now)) (frames_of layout.now)) }
+{
+    let mut chain = chain_of(alloc, programs.as_slice(), layout.sockets, |rule: Rule| {
+        XdpProgram::attach(
+            rule,
+            move |packet: &[u8], queue: u32| rule.verdict(packet, queue),
+        )
+    })?;
+    let manner = Manner {
+        mangle: None,
+        after: manner.after,
+    };
+    let outcome = forward(
+        rt,
+        alloc,
+        config,
+        frames,
+        lists,
+        &mut chain,
+        wire,
+        gate,
+        manner,
+        layout.hands,
+    )?;
+    Ok(ThreadRun { outcome })
 }

@@ -1,7 +1,9 @@
 //! All commands, over a runtime that has threads: `forward`, and what [`run_plain`](crate::run_plain) does.
 ghost use Rattle.std.specs.Prelude.{◌≡◌, false, true, None, map, string_bytes};
+ghost use Rattle.std.specs.Process.{exit_status};
 ghost use Rattle.xsk_io.specs.Bay.{NoneOpen};
 ghost use Rattle.xsk_cli.specs.Ample.{Finishes, GoesOn};
+ghost use Rattle.xsk_cli.specs.ExitStatus.{exit_status_of};
 ghost use Rattle.xsk_cli.specs.Forward.{EndsShown, IsPlainAnswer, IsShownAnswer, ended_in, forward_plan as planned_by, is_forward as are_forward};
 ghost use Rattle.xsk_cli.specs.Steps.{ComesTo};
 ghost use Rattle.xsk_cli.specs.Words.{plan_of};
@@ -14,6 +16,7 @@ use crate::shown::run_on_threads;
 use crate::thread_run::ThreadRun;
 use crate::words::{Plan, check_words};
 use std::alloc::Global;
+use std::process::ExitCode;
 use std::sync::Wait;
 use std::thread::Threads;
 use xsk_args::parse;
@@ -23,8 +26,21 @@ use xsk_io::Bay;
 /// How a command ended, and what its run on threads shows.
 pub struct Ended {
     pub status: Status,
-    /// It is there where a run on threads has ended, whatever came of its texts.
+    /// It is there exactly where a run on threads has ended, whatever came of its texts.
     pub outcome: Option<ThreadRun>,
+}
+
+impl Ended {
+    /// The exit status of a program that ends so. What its run shows is given up.
+    pub fn into_exit_code(self, rt: &HostRuntime) -> ExitCode
+        ensures { exit_status result ≡ exit_status_of self.status }
+    {
+        let Ended { status, outcome } = self;
+        if let Some(run) = outcome {
+            run.give_up(rt);
+        }
+        ExitCode::from(status)
+    }
 }
 
 /// Does what the words of a command line say, over a bay of which no stream is open, with threads for `forward`.

@@ -1,6 +1,6 @@
 //! Bytes that are read before they're wanted, many at once. A processor waits for a line that another one wrote, and where a byte is
 //! wanted, between two exchanges, it waits for each line alone; read one behind the other they come side by side.
-ghost use Rattle.std.specs.Prelude.{◌≡◌};
+ghost use Rattle.std.specs.Prelude.{◌≡◌, ◌*◌, ◌≤◌, length};
 
 use crate::sending::Sending;
 use xsk_prog::Verdict;
@@ -68,27 +68,35 @@ impl Ahead {
         }
     }
 
-    /// Reads the ends of what the items name in their frames, and tells how many bytes these are in all.
-    fn read_items(&mut self, items: &Batch) -> u32 {
-        let mut bytes = 0u32;
+    /// Reads the ends of what the items name in their frames, and tells how many bytes these are in all. What reaches beyond its frame
+    /// counts for nothing: nobody has looked yet whether the descriptors are valid.
+    fn read_items(&mut self, items: &Batch) -> u32
+        ensures few { result ≤ length items.now * 4096 }
+        ensures items { length items.now ≤ 32 }
+    {
+        let mut bytes = 0;
         for i in 0..items.len() {
-            let item = items.item(i);
-            bytes = bytes.saturating_add(item.desc.len);
-            self.read_item(item);
+            bytes += self.read_item(items.item(i));
         }
         bytes
     }
 
-    /// Reads the ends of what an item names in its frame, whose bytes are 2,048 or 4,096.
-    fn read_item(&mut self, item: &Item) {
-        if let Some(frame) = &item.frame {
-            let bytes = frame.bytes();
-            let start = item.desc.addr as usize & bytes.len().wrapping_sub(1);
-            let end = start.saturating_add(item.desc.len as usize);
-            if let Some(named) = bytes.get(start..end) {
-                self.read(named);
-            }
-        }
+    /// Reads the ends of what an item names in its frame, whose bytes are 2,048 or 4,096, and tells how many bytes these are.
+    fn read_item(&mut self, item: &Item) -> u32
+        ensures within { result ≤ 4096 }
+        ensures named { result ≤ item.now.desc.len }
+    {
+        let Some(frame) = &item.frame else {
+            return 0;
+        };
+        let bytes = frame.bytes();
+        let start = item.desc.addr as usize & bytes.len().wrapping_sub(1);
+        let end = start.saturating_add(item.desc.len as usize);
+        let Some(named) = bytes.get(start..end) else {
+            return 0;
+        };
+        self.read(named);
+        named.len() as u32
     }
 
     /// Reads the first and the last byte.

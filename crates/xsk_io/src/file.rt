@@ -5,8 +5,10 @@ ghost use Rattle.xsk_io.specs.Files.{StreamCounts, FilesState, no_counts, no_fil
 
 use crate::counts::Counts;
 use crate::{Bay, BayFailed, Stream};
+use std::fs::{OpenFile, OpenOptions};
 use std::io::{ErrorKind, Read, Write};
 use std::marker::Model;
+use std::os::unix::fs::MetadataExt;
 use std::rt::Files;
 use std::{fs, io};
 
@@ -112,26 +114,43 @@ fn write_open<F: Write>(slot: &mut Option<F>, piece: &[u8]) -> Result<usize, Bay
     }
 }
 
-/// Opens an input, or makes an output, once.
-fn open_once<R: Files>(rt: &R, stream: Stream, name: &str) -> io::Result<R::File> {
-    match stream {
-        Stream::Input(_) => fs::open(rt, name),
-        Stream::Output(_) | Stream::Report => fs::create(rt, name),
+/// A regular file, by whatever name it was opened: its device, and its number there.
+#[derive(Clone, Copy, PartialEq, Eq)]
+struct Regular {
+    device: u64,
+    number: u64,
+}
+
+/// The regular file that is open here. Devices, pipes and the like are none.
+fn regular_of<F: OpenFile>(file: &F) -> io::Result<Option<Regular>> {
+    let metadata = file.metadata()?;
+    if !metadata.is_file() {
+        return Ok(None);
+    }
+    Ok(Some(Regular {
+        device: metadata.dev(),
+        number: metadata.ino(),
+    }))
+}
+
+/// Whether this regular file is open here.
+fn is_open_as<F: OpenFile>(slot: &Option<F>, regular: Regular) -> io::Result<bool> {
+    match slot {
+        Some(file) => Ok(regular_of(file)? == Some(regular)),
+        None => Ok(false),
     }
 }
 
-fn open_again<R: Files>(rt: &R, stream: Stream, name: &str) -> Result<R::File, BayFailed> {
-    for _ in 0..TRIES {
-        match outcome_of(open_once(rt, stream, name)) {
-            Ok(file) => return Ok(file),
-            Err(is_final) => {
-                if is_final {
-                    break;
-                }
-            }
-        }
+impl<F: OpenFile + Drop> Slots<F> {
+    /// Whether one of the files that are open is this regular file.
+    fn have(&self, regular: Regular) -> io::Result<bool> {
+        Ok(
+            is_open_as(&self.first, regular)?
+                || is_open_as(&self.second, regular)?
+                || is_open_as(&self.third, regular)?
+                || is_open_as(&self.fourth, regular)?,
+        )
     }
-    Err(BayFailed)
 }
 
 fn read_again<F: Read>(file: &mut F, buf: &mut [u8]) -> Result<usize, BayFailed>
@@ -180,7 +199,8 @@ fn outcome_of<T>(outcome: io::Result<T>) -> Result<T, bool>
 
 /// The bay over real files and the standard output, which is the report.
 ///
-/// It tells no name and no byte: what a file holds is outside of all that is proved.
+/// It tells no name and no byte: what a file holds is outside of all that is proved. An output that is a regular file which an
+/// input or another output has opened, by this name or another, isn't opened.
 #[derive(Drop)]
 pub struct FileBay<R: Files + Drop> {
     rt: R,
@@ -220,6 +240,44 @@ impl<R: Files + Drop> FileBay<R> {
         }
     }
 
+    /// Makes an output, once. What a regular file held is gone then, so one that is open already is refused, and is left as
+    /// it was.
+    fn make_once(&self, name: &str) -> io::Result<R::File> {
+        let file = OpenOptions::new()
+            .write(true)
+            .create(true)
+            .open(&self.rt, name)?;
+        if let Some(regular) = regular_of(&file)? {
+            if self.inputs.have(regular)? || self.outputs.have(regular)? {
+                return Err(io::Error::from(ErrorKind::ResourceBusy));
+            }
+            file.set_len(0)?;
+        }
+        Ok(file)
+    }
+
+    /// Opens an input, or makes an output, once.
+    fn open_once(&self, stream: Stream, name: &str) -> io::Result<R::File> {
+        match stream {
+            Stream::Input(_) => fs::open(&self.rt, name),
+            Stream::Output(_) | Stream::Report => self.make_once(name),
+        }
+    }
+
+    fn open_again(&self, stream: Stream, name: &str) -> Result<R::File, BayFailed> {
+        for _ in 0..TRIES {
+            match outcome_of(self.open_once(stream, name)) {
+                Ok(file) => return Ok(file),
+                Err(is_final) => {
+                    if is_final {
+                        break;
+                    }
+                }
+            }
+        }
+        Err(BayFailed)
+    }
+
     /// Keeps the file of an input or an output.
     fn keep(&mut self, stream: Stream, file: R::File)
         requires numbered { HasNumber stream }
@@ -240,7 +298,7 @@ impl<R: Files + Print + Drop> Bay for FileBay<R> {
     ghost moment = { files_moment };
 
     fn open(&mut self, stream: Stream, name: &str) -> Result<(), BayFailed> {
-        let outcome = open_again(&self.rt, stream, name);
+        let outcome = self.open_again(stream, name);
         let file = self.opens.note(stream, outcome)?;
         self.keep(stream, file);
         Ok(())

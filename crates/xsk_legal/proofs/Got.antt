@@ -129,22 +129,15 @@ nothing_got c kept a k b items is other mine given stands gift =
 
 -- ---- Swaps and Looks
 
-pub swap_got : (c : Config) (kept new : Noted) (a : Ask) (m : Mark) (value : ℕ) (b : Answer) (items : List Item) → a ≡ ask.Swap m value
-    → ((mine : List Told) (old : ℕ) → StandsFor c kept mine → IsLegal c mine kept.who (Swap m value) → Fits c mine (Swap m value) (Old old) → StandsFor c new (with_told mine (Swap m value) (Old old)))
+pub swap_got : (c : Config) (kept new : Noted) (a : Ask) (m : Mark) (value : ℕ) (b : Answer) (old : ℕ) (items : List Item) → a ≡ ask.Swap m value → b ≡ answer.Old old
+    → ((mine : List Told) → StandsFor c kept mine → IsLegal c mine kept.who (Swap m value) → Fits c mine (Swap m value) (Old old) → StandsFor c new (with_told mine (Swap m value) (Old old)))
     → (mine : List Told) (given : List Item) → StandsGiven c kept mine (joined_call a given) → MayGive c mine kept.who (joined_call a given) (joined_reply b items)
     → StandsFor c new (with_told mine (joined_call a given) (joined_reply b items))
-swap_got c kept new a m value b items is notes mine given =
+swap_got c kept new a m value b old items is answered notes mine given =
     subst (λ (x : Ask). StandsGiven c kept mine (joined_call x given) → MayGive c mine kept.who (joined_call x given) (joined_reply b items)
-    → StandsFor c new (with_told mine (joined_call x given) (joined_reply b items))) (sym is) (by b)
-  where
-    by : (b : Answer) → StandsFor c kept mine → MayGive c mine kept.who (Swap m value) (joined_reply b items) → StandsFor c new (with_told mine (Swap m value) (joined_reply b items))
-    by (answer.Old old) h gift = notes mine old h (gift_legal c mine kept.who (Swap m value) (Old old) gift) (gift_fits c mine kept.who (Swap m value) (Old old) gift)
-    by answer.Granted h gift = absurd (gift_fits c mine kept.who (Swap m value) Granted gift)
-    by (answer.Full free) h gift = absurd (gift_fits c mine kept.who (Swap m value) (Full free) gift)
-    by answer.Submitted h gift = absurd (gift_fits c mine kept.who (Swap m value) Submitted gift)
-    by answer.Items h gift = absurd (gift_fits c mine kept.who (Swap m value) (Items items) gift)
-    by answer.Empty h gift = absurd (gift_fits c mine kept.who (Swap m value) Empty gift)
-    by answer.Released h gift = absurd (gift_fits c mine kept.who (Swap m value) Released gift)
+    → StandsFor c new (with_told mine (joined_call x given) (joined_reply b items))) (sym is)
+    (subst (λ (x : Answer). StandsFor c kept mine → MayGive c mine kept.who (Swap m value) (joined_reply x items) → StandsFor c new (with_told mine (Swap m value) (joined_reply x items))) (sym answered)
+    (λ h gift. notes mine h (gift_legal c mine kept.who (Swap m value) (Old old) gift) (gift_fits c mine kept.who (Swap m value) (Old old) gift)))
 
 pub look_got : (c : Config) (kept new : Noted) (a : Ask) (m : Mark) (b : Answer) (old : ℕ) (items : List Item) → a ≡ ask.Look m → b ≡ answer.Old old
     → ((mine : List Told) → StandsFor c kept mine → IsLegal c mine kept.who (Look m) → Fits c mine (Look m) (Old old) → StandsFor c new (with_told mine (Look m) (Old old)))

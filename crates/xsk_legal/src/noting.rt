@@ -4,14 +4,15 @@ ghost use Rattle.xsk_umem.specs.declared.batch.Item.{Item};
 ghost use Rattle.xsk_model.specs.Asks.{joined_call, joined_reply};
 ghost use Rattle.xsk_model.specs.Entry.{Told, with_told};
 ghost use Rattle.xsk_model.specs.Legal.{IsLegal};
-ghost use Rattle.xsk_model.specs.History.{MayGive};
-ghost use Rattle.xsk_model.specs.declared.call.Call.TheVariants.{Submit, Peek};
-ghost use Rattle.xsk_model.specs.declared.call.Reply.TheVariants.{Submitted, Items};
+ghost use Rattle.xsk_model.specs.History.{MayGive, Fits};
+ghost use Rattle.xsk_model.specs.declared.call.Call.TheVariants.{Submit, Peek, Swap, Look};
+ghost use Rattle.xsk_model.specs.declared.call.Reply.TheVariants.{Submitted, Items, Old};
 ghost use Rattle.xsk_legal.specs.Given.{StandsGiven};
+ghost use Rattle.xsk_legal.specs.Noting.{IsFor};
 ghost use Rattle.xsk_legal.specs.Standing.{StandsFor};
 
 use crate::Standing;
-use xsk_model::{Answer, Ask, Config, Ring};
+use xsk_model::{Answer, Ask, Call, Config, Mark, Ring};
 use xsk_umem::Batch;
 
 impl Standing {
@@ -52,13 +53,37 @@ impl Standing {
             }
             Ask::Submit(_) => {}
             Ask::Release(_, _) => {}
-            Ask::Swap(mark, value) => self.swapped(config, mark, value),
+            Ask::Swap(mark, value) => {
+                if let Answer::Old(old) = answer {
+                    self.got_swap(config, mark, value, old);
+                }
+            }
             Ask::Look(mark) => {
                 if let Answer::Old(old) = answer {
-                    self.looked(config, mark, old);
+                    self.got_look(config, mark, old);
                 }
             }
         }
+    }
+
+    /// Notes a Swap that was answered by a number.
+    fn got_swap(&mut self, config: &Config, mark: Mark, value: u64, old: u64)
+        requires { IsFor config.now self.old }
+        ensures caller { self.new.who ≡ self.old.who }
+        ensures stands { (mine : List Told) → StandsFor config.now self.old mine → IsLegal config.now mine self.old.who (Swap mark value)
+            → Fits config.now mine (Swap mark value) (Old old) → StandsFor config.now self.new (with_told mine (Swap mark value) (Old old)) }
+    {
+        self.marked(config, &Call::Swap(mark, value), old);
+    }
+
+    /// Notes a Look that was answered by a number.
+    fn got_look(&mut self, config: &Config, mark: Mark, old: u64)
+        requires { IsFor config.now self.old }
+        ensures caller { self.new.who ≡ self.old.who }
+        ensures stands { (mine : List Told) → StandsFor config.now self.old mine → IsLegal config.now mine self.old.who (Look mark)
+            → Fits config.now mine (Look mark) (Old old) → StandsFor config.now self.new (with_told mine (Look mark) (Old old)) }
+    {
+        self.marked(config, &Call::Look(mark), old);
     }
 
     /// Notes all items of a Submit.

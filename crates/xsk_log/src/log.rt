@@ -25,6 +25,9 @@ const NEXT_BYTES: u64 = 1_048_576;
 /// How many frames have the place of their last payload known.
 const KEPT: usize = 1_024;
 
+/// How many frames have places of their own where a piece is looked for when it comes again.
+const FRAMES: u64 = 4_096;
+
 /// The payload of an item among the log's bytes: where it starts, and how many they are.
 #[derive(Clone, Copy, Debug, Default, PartialEq, Eq)]
 pub struct Extent {
@@ -68,28 +71,34 @@ impl Repeated for Piece {
         *self == *other
     }
 
-    /// A frame's pieces with a payload, without one, and at the frame's begin are told apart.
+    /// Each frame has two numbers for its pieces without a payload, which are told apart by the part of the frame where they
+    /// begin, and four for those with one, by their length as well.
     fn key(&self) -> u64 {
         let frame = match self.frame {
-            Some(frame) => 4 * u64::from(frame),
+            Some(frame) => u64::from(frame) % FRAMES,
             None => 0,
         };
-        let shown = if self.payload.len == 0 { 0 } else { 2 };
-        frame + shown + self.desc.addr / 256 % 2
+        let begin = self.desc.addr / 256 % 2;
+        let len = u64::from(self.desc.len) % 4;
+        if self.payload.len == 0 {
+            2 * frame + begin
+        } else {
+            2 * FRAMES + 4 * frame + (len + 2 * begin) % 4
+        }
     }
 }
 
 /// All calls on an object with their callers and replies, in order: frames by their numbers, with descriptors and
-/// payloads. A row takes four bytes where its numbers are small. Pieces that come again are kept once, and a payload once
-/// while a frame's stays the same.
+/// payloads. A row takes four bytes where its numbers are small. Pieces that come again are kept once. A payload is kept once
+/// while a frame's stays the same, and so is one with which all that is kept begins.
 #[derive(Debug, Drop)]
 pub struct Log {
     pub(crate) rows: Rows,
     /// The items of all rows, in order.
     pub(crate) pieces: Repeats<Piece>,
     bytes: Vec<u8>,
-    /// Where the payload stands that was kept last for a frame, by its number modulo 1,024.
-    kept: [Extent; KEPT],
+    /// Where the payload starts that was kept last for a frame, by its number modulo 1,024.
+    kept: [usize; KEPT],
     /// The number of pieces of all rows.
     pub(crate) begun: u32,
     spare_entries: u32,
@@ -119,7 +128,7 @@ impl Log {
             rows: Rows::new(alloc),
             pieces: Repeats::new(alloc),
             bytes: Vec::new(alloc),
-            kept: [Extent::default(); KEPT],
+            kept: [0; KEPT],
             begun: 0,
             spare_entries: 0,
             spare_bytes: 0,
@@ -185,28 +194,32 @@ impl Log {
         Ok(())
     }
 
-    /// Keeps the payload of an item of a frame that is submitted, and tells where it stands: where it stood, if it is
-    /// the payload that was kept last for the frame. There must be room for its bytes.
+    /// Keeps the payload of an item of a frame that is submitted, and tells where it stands: where bytes like it stood, if
+    /// they begin where the payload begins that was kept last for the frame, or the first of all. There must be room for its
+    /// bytes.
     pub fn keep(&mut self, frame: u32, payload: &[u8]) -> Extent
         requires { length payload.now ≤ byte_room self.old }
         ensures { KeepsPayload self.old self.new payload.now result }
     {
-        self.spare_bytes -= payload.len() as u64;
-        if payload.is_empty() {
+        let len = payload.len();
+        self.spare_bytes -= len as u64;
+        if len == 0 {
             return Extent::default();
         }
         let slot = frame as usize % KEPT;
-        let last = self.kept[slot];
+        let start = self.kept[slot];
+        let last = Extent { start, len };
         if shows(self.bytes.as_slice(), last, payload) {
             return last;
         }
-        let extent = Extent {
-            start: self.bytes.len(),
-            len: payload.len(),
-        };
+        let first = Extent { start: 0, len };
+        if shows(self.bytes.as_slice(), first, payload) {
+            return first;
+        }
+        let start = self.bytes.len();
         self.bytes.extend_from_slice(payload).unwrap();
-        self.kept[slot] = extent;
-        extent
+        self.kept[slot] = start;
+        Extent { start, len }
     }
 
     /// Adds an item to the entry that is being made, and tells the place of its piece. An entry has at most 32 items, there must

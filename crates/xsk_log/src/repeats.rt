@@ -7,7 +7,7 @@ use std::marker::Model;
 use xsk_umem::OutOfMemory;
 
 /// How many values are looked for when one comes again.
-const RECENT: usize = 2_048;
+const RECENT: usize = 24_576;
 
 /// A value that may come again.
 pub(crate) trait Repeated: Copy + Drop {
@@ -15,7 +15,7 @@ pub(crate) trait Repeated: Copy + Drop {
     fn is(&self, other: &Self) -> bool
         ensures { IsTrue result ↔ (self.now ≡ other.now) };
 
-    /// A number of the value. One is found again as long as no other came whose number is the same modulo 2,048.
+    /// A number of the value. One is found again as long as no other came whose number is the same modulo 24,576.
     fn key(&self) -> u64;
 }
 
@@ -25,8 +25,8 @@ pub(crate) struct Repeats<T> {
     values: Vec<T>,
     /// For each value of the list its place among the values that are kept.
     places: Vec<u32>,
-    /// The place of the value that came last, by its number modulo 2,048.
-    recent: [u32; RECENT],
+    /// The place of the value that came last, by its number modulo 24,576. There are none before room was made.
+    recent: Vec<u32>,
     /// The number of values that the list may come to in the room that is reserved.
     limit: u64,
 }
@@ -55,7 +55,7 @@ impl<T: Repeated> Repeats<T> {
         Repeats {
             values: Vec::new(alloc),
             places: Vec::new(alloc),
-            recent: [0; RECENT],
+            recent: Vec::new(alloc),
             limit: 0,
         }
     }
@@ -92,6 +92,7 @@ impl<T: Repeated> Repeats<T> {
         if extra > u64::from(u32::MAX) - len {
             return Err(OutOfMemory);
         }
+        self.recent.resize(RECENT, 0)?;
         self.values.reserve(extra as usize)?;
         self.places.reserve(extra as usize)?;
         self.limit = len + extra;
@@ -107,7 +108,7 @@ impl<T: Repeated> Repeats<T> {
         ensures kept { KeepsValues self.old.values self.new.values }
         ensures spare { self.new.spare + 1 ≡ self.old.spare }
     {
-        let place = place_of(&mut self.values, &mut self.recent, value);
+        let place = place_of(&mut self.values, self.recent.as_mut_slice(), value);
         self.places.push_reserved(place);
         place
     }
@@ -127,7 +128,7 @@ impl<T: Repeated> Repeats<T> {
 
 /// The place of a value: where an equal one came of late, or that of a new one, for which there must be room.
 #[inline(always)]
-fn place_of<T: Repeated>(values: &mut Vec<T>, recent: &mut [u32; RECENT], value: &T) -> u32
+fn place_of<T: Repeated>(values: &mut Vec<T>, recent: &mut [u32], value: &T) -> u32
     requires room { vec_len values.old + 1 ≤ vec_capacity values.old }
     requires few { vec_len values.old < 2 ^ 32 }
     ensures shown { slice_get values.new.items result ≡ Some value.now }
@@ -136,13 +137,16 @@ fn place_of<T: Repeated>(values: &mut Vec<T>, recent: &mut [u32; RECENT], value:
     ensures capacity { vec_capacity values.new ≡ vec_capacity values.old }
 {
     let slot = (value.key() % RECENT as u64) as usize;
-    let found = recent[slot];
-    if holds(values.as_slice(), found, value) {
-        return found;
+    if let Some(found) = recent.get(slot)
+        && holds(values.as_slice(), *found, value)
+    {
+        return *found;
     }
     let place = values.len() as u32;
     values.push_reserved(*value);
-    recent[slot] = place;
+    if let Some(last) = recent.get_mut(slot) {
+        *last = place;
+    }
     place
 }
 

@@ -24,7 +24,7 @@ use Rattle.xsk_driver.specs.Asking.{AreAsked, Question, verdicts_in}
 use Rattle.xsk_driver.proofs.Asking.{asked-append, same_all}
 use Rattle.xsk_driver.specs.Shown.{Shown}
 use Rattle.xsk_machine.specs.Acts.{IsDriver}
-use Rattle.xsk_machine.specs.Workers.{kept_in, IsFreshDriver, AreNew, IsAskedOnce, questions_to, setting_by}
+use Rattle.xsk_machine.specs.Workers.{kept_in, IsFreshDriver, AreNew, HasGiven, questions_to, setting_by}
 
 -- what is known of one driver that was made: it is that of each setting with its verdicts
 pub record IsMade (By : ℕ → List ℕ → Verdict → Type 0) (c : Config) (wire : Wire) (packets : List PacketList) (pair : ℕ) (d : Shown) : Type 0 where
@@ -72,35 +72,39 @@ module _ (By : ℕ → List ℕ → Verdict → Type 0) (c : Config) (wire : Wir
 
 -- ---- what the chain was asked
 
+-- the verdicts of pairs as one list
+abbrev pub one_list : List (List Verdict) → List Verdict
+one_list = flat_map (λ (pair : List Verdict). pair)
+
 module _ {F : Type 0} (g : Shared F (Bor (List ℕ) × (ℕ × Unit {0})) Verdict) (c : Config) (lists : List PacketList) (programs : List (XdpProgram F)) where
-  -- of the packets of the first pairs
-  pub record AskedFirst (n : ℕ) (now : List (XdpProgram F)) : Type 0 where
-    pub once : (verdicts : List Verdict) × AreAsked g (flat_map (questions_to c lists) (take n c.pairs)) verdicts programs now
+  -- of the packets of the first pairs, and what it gave
+  pub record GaveFirst (n : ℕ) (kept : List (List Verdict)) (now : List (XdpProgram F)) : Type 0 where
+    pub once : AreAsked g (flat_map (questions_to c lists) (take n c.pairs)) (one_list kept) programs now
     pub same : SamePrograms programs now
     pub obeys : AllObey g now
 
-  pub asked_none : AllObey g programs → AskedFirst 0 programs
-  asked_none obeys = record { once = ([], refl); same = refl; obeys = obeys }
+  pub gave_none : AllObey g programs → GaveFirst 0 [] programs
+  gave_none obeys = record { once = refl; same = refl; obeys = obeys }
 
-  pub asked_next : (n : ℕ) (now after : List (XdpProgram F)) (verdicts : List Verdict) → n < length c.pairs → AskedFirst n now → AreAsked g (questions_to c lists (pair_at c.pairs n)) verdicts now after → AllObey g after
-      → AskedFirst (n + 1) after
-  asked_next n now after verdicts below h asked obeys =
+  pub gave_next : (n : ℕ) (kept : List (List Verdict)) (now after : List (XdpProgram F)) (verdicts : List Verdict) → n < length c.pairs → GaveFirst n kept now → AreAsked g (questions_to c lists (pair_at c.pairs n)) verdicts now after → AllObey g after
+      → GaveFirst (n + 1) (kept ++ verdicts ∷ []) after
+  gave_next n kept now after verdicts below h asked obeys =
       let none : PairInfo = record { port = 0; queue = 0; fill = 0; comp = 0 } in
       let questions : PairInfo → List Question = questions_to c lists in
       let more : flat_map questions (take (n + 1) c.pairs) ≡ flat_map questions (take n c.pairs) ++ questions (pair_at c.pairs n) =
       ap (flat_map questions) (take_more c.pairs n none below) ∙ flat_map-append questions (take n c.pairs) (pair_at c.pairs n ∷ [])
-      ∙ ap (λ qs. flat_map questions (take n c.pairs) ++ qs) (append-nil (questions (pair_at c.pairs n))) in record {
-        once = (
-          h.once.0 ++ verdicts,
-          subst (λ qs. AreAsked g qs (h.once.0 ++ verdicts) programs after) (sym more)
-              (asked-append g (flat_map questions (take n c.pairs)) (questions (pair_at c.pairs n)) h.once.0 verdicts programs now after h.once.1 asked),
-        );
+      ∙ ap (λ qs. flat_map questions (take n c.pairs) ++ qs) (append-nil (questions (pair_at c.pairs n))) in
+      let joined : one_list (kept ++ verdicts ∷ []) ≡ one_list kept ++ verdicts =
+      flat_map-append (λ (pair : List Verdict). pair) kept (verdicts ∷ []) ∙ ap (λ vs. one_list kept ++ vs) (append-nil verdicts) in record {
+        once = subst (λ vs. AreAsked g (flat_map questions (take (n + 1) c.pairs)) vs programs after) (sym joined)
+            (subst (λ qs. AreAsked g qs (one_list kept ++ verdicts) programs after) (sym more)
+            (asked-append g (flat_map questions (take n c.pairs)) (questions (pair_at c.pairs n)) (one_list kept) verdicts programs now after h.once asked));
         same = same_all g (questions (pair_at c.pairs n)) verdicts now after asked ∙ h.same;
         obeys = obeys;
       }
 
-  pub asked_all : (n : ℕ) (now : List (XdpProgram F)) → n ≡ length c.pairs → AskedFirst n now → IsAskedOnce g c lists programs now
-  asked_all n now all h = (h.once.0, subst (λ ps. AreAsked g (flat_map (questions_to c lists) ps) h.once.0 programs now) (ap (λ k. take k c.pairs) all ∙ take-length c.pairs) h.once.1)
+  pub gave_all : (n : ℕ) (kept : List (List Verdict)) (now : List (XdpProgram F)) → n ≡ length c.pairs → GaveFirst n kept now → HasGiven g c lists kept programs now
+  gave_all n kept now all h = subst (λ ps. AreAsked g (flat_map (questions_to c lists) ps) (one_list kept) programs now) (ap (λ k. take k c.pairs) all ∙ take-length c.pairs) h.once
 
 -- the next driver, where there is one, is that of the pair, and those that are left are those of the pairs after it
 module _ (s : Setting) (n : ℕ) (all rest : List Shown) where

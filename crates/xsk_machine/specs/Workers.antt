@@ -87,6 +87,11 @@ questions_to c lists pair = questions_on pair.queue (packets_to c lists pair)
 abbrev pub questions_of : Config → List PacketList → List Question
 questions_of c lists = flat_map (questions_to c lists) c.pairs
 
--- a chain before and after it was asked once of each of them that has an Ethernet header, whatever it answered
+-- a chain before and after it was asked once of each of them that has an Ethernet header, and gave these verdicts: those of each
+-- pair's packets, pair after pair
+abbrev pub HasGiven : {F : Type 0} → Shared F (Bor (List ℕ) × (ℕ × Unit {0})) Verdict → Config → List PacketList → List (List Verdict) → List (XdpProgram F) → List (XdpProgram F) → Type 0
+HasGiven g c lists verdicts before after = AreAsked g (questions_of c lists) (flat_map (λ (pair : List Verdict). pair) verdicts) before after
+
+-- whatever it answered
 abbrev pub IsAskedOnce : {F : Type 0} → Shared F (Bor (List ℕ) × (ℕ × Unit {0})) Verdict → Config → List PacketList → List (XdpProgram F) → List (XdpProgram F) → Type 0
-IsAskedOnce g c lists before after = (verdicts : List Verdict) × AreAsked g (questions_of c lists) verdicts before after
+IsAskedOnce g c lists before after = (verdicts : List (List Verdict)) × HasGiven g c lists verdicts before after

@@ -12,7 +12,7 @@ ghost use Rattle.xsk_turns.specs.Workers.{packets_to, AreGiven};
 ghost use Rattle.xsk_driver.specs.Asking.{AreAsked, IsAnswer, verdicts_in};
 ghost use Rattle.xsk_machine.specs.Acts.{IsDriver, HasShortPackets, received_by_both, received_there};
 ghost use Rattle.xsk_machine.specs.Amounts.{IsAmountOf};
-ghost use Rattle.xsk_machine.specs.Workers.{AreNew, IsAskedOnce, kept_in, questions_to, setting_by};
+ghost use Rattle.xsk_machine.specs.Workers.{AreNew, HasGiven, kept_in, questions_to, setting_by};
 ghost use Rattle.xsk_turns.specs.declared.manner.Manner.{Manner as AManner};
 
 use crate::{Amount, Inputs};
@@ -154,7 +154,7 @@ pub fn drivers_for<'a, F: Fn(&[u8], u32) -> Verdict>(
     requires obeys { AllObey F.Fn chain.old }
     ensures new { IfOk result (λ drivers. (manner : AManner) → AreNew (setting_by config.now wire manner packets.now (kept_in drivers.items)) 0 drivers.items) }
     ensures asked { IfOk result (λ drivers. (manner : AManner) → AreGiven (IsAnswer F.Fn chain.old) (setting_by config.now wire manner packets.now (kept_in drivers.items))) }
-    ensures once { IfOk result (λ drivers. IsAskedOnce F.Fn config.now packets.now chain.old chain.new) }
+    ensures once { IfOk result (λ drivers. HasGiven F.Fn config.now packets.now (kept_in drivers.items) chain.old chain.new) }
     ensures same { SamePrograms chain.old chain.new }
     ensures obeys { AllObey F.Fn chain.new }
     ensures count { IfOk result (λ drivers. length drivers.items ≡ length config.now.pairs) }

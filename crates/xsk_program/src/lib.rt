@@ -1,4 +1,4 @@
-//! The program: the words behind its name, and the command over files.
+//! The program: the words behind its name, and what the commands answer them.
 #![tactic(auto)]
 
 ghost use Rattle.std.specs.Prelude.{map, string_bytes, MatchResult};
@@ -8,49 +8,40 @@ ghost use Rattle.xsk_program.specs.Answering.{IsAnswered, IsTold};
 use std::alloc::Global;
 use std::env;
 use std::io::ErrorKind;
-use std::rt::{Env, Files};
+use std::rt::Env;
 use std::sync::Wait;
 use std::thread::Threads;
 use xsk_cli::{Ended, Status, tell};
 use xsk_gate::Open;
-use xsk_io::{Bay, FileBay};
+use xsk_io::Bay;
 
-/// Does what the program's words say, over files, with a thread for each worker where the command is `forward`. A refusal is told
-/// in one line on standard output, also that of words which aren't UTF-8. The program ends with the status's number.
-pub fn run<R: Env + Files + Print + AllocGlobal + Threads + Wait + Sync>(rt: &R) -> Status {
-    let mut bay = FileBay::new(rt);
-    answer(rt, rt.alloc(), words_of(rt), &mut bay)
-}
-
-/// Does what words say, over a bay of which no stream is open, or tells why there are none. No worker is held at a gate.
+/// Does what words say, over a bay of which no stream is open, with a thread for each worker where the command is `forward`, or
+/// tells why there are none. A refusal is told in one line to the report. No worker is held at a gate.
 pub fn answer<R: Threads + Wait + Sync, B: Bay>(
     rt: &R,
     alloc: Global,
     words: Result<Vec<String>, Status>,
     bay: &mut B,
-) -> Status
+) -> Ended
     requires { NoneOpen (B.moment bay.old) }
     ensures { MatchResult words
         (λ given. IsAnswered (map string_bytes given.items) (B.moment bay.old) (B.moment bay.new) result)
         (λ why. IsTold why (B.moment bay.old) (B.moment bay.new) result) }
 {
     match words {
-        Ok(words) => {
-            let Ended { status, outcome } = xsk_cli::run(rt, alloc, words.as_slice(), bay, &Open);
-            if let Some(run) = outcome {
-                run.give_up();
-            }
-            status
-        }
+        Ok(words) => xsk_cli::run(rt, alloc, words.as_slice(), bay, &Open),
         Err(status) => {
             tell(bay, &status);
-            status
+            Ended {
+                status,
+                outcome: None,
+            }
         }
     }
 }
 
 /// The words behind the program's name. One that isn't UTF-8 is a faulty command line.
-fn words_of<R: Env + AllocGlobal>(rt: &R) -> Result<Vec<String>, Status> {
+pub fn words_of<R: Env + AllocGlobal>(rt: &R) -> Result<Vec<String>, Status> {
     let words = match env::args(rt) {
         Ok(words) => words,
         Err(error) => return Err(status_of(error.kind())),

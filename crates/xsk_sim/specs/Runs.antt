@@ -27,7 +27,7 @@ use Rattle.xsk_laws.specs.Laws.{AreForwarded, AreExpected}
 use Rattle.xsk_ended.specs.Until.{AreForwardedUntil, AreExpectedUntil}
 use Rattle.xsk_driver.specs.Asking.{IsAnswer}
 use Rattle.xsk_machine.specs.Acts.{sent_of}
-use Rattle.xsk_machine.specs.Workers.{setting_by}
+use Rattle.xsk_machine.specs.Workers.{HasGiven, setting_by}
 use Rattle.xsk_machine.specs.Figured.{figures_of}
 use Rattle.xsk_sim.specs.Journal.{rounds_of}
 use Rattle.xsk_sim.specs.Rounds.{AreRounds, AreInRounds}
@@ -83,15 +83,17 @@ pub record HasStalled (s : Setting) (frames : List Frame) (order round : ℕ) : 
   pub still : StandStill s frames order 64 (round + 1) past.history
   pub first : NeverStill s frames order round
 
--- The same under a chain: there are verdicts of each driver's packets, each an answer of the chain that meets its programs'
--- rules, with which the run has ended, or stalled.
-pub record HasEndedUnder {F : Type 0} (g : Shared F (Bor (List ℕ) × (ℕ × Unit {0})) Verdict) (programs : List (XdpProgram F)) (wire : Wire) (manner : Manner) (c : Config) (packets : List PacketList) (frames : List Frame) (order : ℕ) (run : Shown) : Type 0 where
+-- The same under a chain, before and after: it was asked once of each packet that has an Ethernet header, and with the verdicts that
+-- it gave of each driver's packets, each of which meets its programs' rules, the run has ended, or stalled.
+pub record HasEndedUnder {F : Type 0} (g : Shared F (Bor (List ℕ) × (ℕ × Unit {0})) Verdict) (programs after : List (XdpProgram F)) (wire : Wire) (manner : Manner) (c : Config) (packets : List PacketList) (frames : List Frame) (order : ℕ) (run : Shown) : Type 0 where
   pub verdicts : List (List Verdict)
+  pub once : HasGiven g c packets verdicts programs after
   pub asked : AreGiven (IsAnswer g programs) (setting_by c wire manner packets verdicts)
   pub ended : HasEnded (setting_by c wire manner packets verdicts) frames order run
 
-pub record HasStalledUnder {F : Type 0} (g : Shared F (Bor (List ℕ) × (ℕ × Unit {0})) Verdict) (programs : List (XdpProgram F)) (wire : Wire) (manner : Manner) (c : Config) (packets : List PacketList) (frames : List Frame) (order round : ℕ) : Type 0 where
+pub record HasStalledUnder {F : Type 0} (g : Shared F (Bor (List ℕ) × (ℕ × Unit {0})) Verdict) (programs after : List (XdpProgram F)) (wire : Wire) (manner : Manner) (c : Config) (packets : List PacketList) (frames : List Frame) (order round : ℕ) : Type 0 where
   pub verdicts : List (List Verdict)
+  pub once : HasGiven g c packets verdicts programs after
   pub asked : AreGiven (IsAnswer g programs) (setting_by c wire manner packets verdicts)
   pub stalled : HasStalled (setting_by c wire manner packets verdicts) frames order round
 

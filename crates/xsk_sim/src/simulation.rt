@@ -12,7 +12,7 @@ ghost use Rattle.xsk_turns.specs.Mangling.{plain as plain_manner};
 ghost use Rattle.xsk_prog.specs.declared.rule.Verdict.{Verdict as AVerdict};
 ghost use Rattle.xsk_turns.specs.Inputs.{inputs_of};
 ghost use Rattle.xsk_driver.specs.Asking.{IsAnswer};
-ghost use Rattle.xsk_machine.specs.Workers.{AreNew, IsAskedOnce, setting_by};
+ghost use Rattle.xsk_machine.specs.Workers.{AreNew, HasGiven, setting_by};
 ghost use Rattle.xsk_driver.specs.Sent.{IsShort};
 ghost use Rattle.xsk_sim.specs.Shown.{HasShortPackets, IsSentBy, IsShownBy, Shown, packets_in};
 ghost use Rattle.xsk_prog.specs.Chain.{AllObey, SamePrograms};
@@ -161,13 +161,12 @@ pub fn simulate<F: Fn(&[u8], u32) -> Verdict>(
     requires lists { length packets.now ≡ config.ports }
     requires short { All HasShortPackets packets.now }
     requires obeys { AllObey F.Fn chain.old }
-    ensures once { IfOk result (λ run. IsAskedOnce F.Fn config packets.now chain.old chain.new) }
     ensures same { SamePrograms chain.old chain.new }
     ensures obeys { AllObey F.Fn chain.new }
     ensures pairs { IfOk result (λ run. run.pairs ≡ length config.pairs) }
-    ensures ended { IfOk result (HasEndedUnder F.Fn chain.old wire manner config packets.now frames.items order) }
+    ensures ended { IfOk result (HasEndedUnder F.Fn chain.old chain.new wire manner config packets.now frames.items order) }
     ensures stalled { (round : ℕ) → result ≡ Err (SimError.Stalled round)
-        → HasStalledUnder F.Fn chain.old wire manner config packets.now frames.items order round }
+        → HasStalledUnder F.Fn chain.old chain.new wire manner config packets.now frames.items order round }
     ensures goes_on { HasAmpleRoom config → config.closing ≡ None → manner ≡ plain_manner → (round : ℕ) → result ≡ Err (SimError.Stalled round) → ⊥ }
 {
     let (plain, sent) = run_on::<F, Plain>(
@@ -193,13 +192,12 @@ pub fn simulate_unlogged<F: Fn(&[u8], u32) -> Verdict>(
     requires lists { length packets.now ≡ config.ports }
     requires short { All HasShortPackets packets.now }
     requires obeys { AllObey F.Fn chain.old }
-    ensures once { IfOk result (λ sent. IsAskedOnce F.Fn config packets.now chain.old chain.new) }
     ensures same { SamePrograms chain.old chain.new }
     ensures obeys { AllObey F.Fn chain.new }
     ensures pairs { IfOk result (λ sent. length sent.lists ≡ length config.pairs) }
-    ensures ended { IfOk result (λ sent. (run : Shown) × HasEndedUnder F.Fn chain.old wire manner config packets.now frames.items order run × IsSentBy run sent) }
+    ensures ended { IfOk result (λ sent. (run : Shown) × HasEndedUnder F.Fn chain.old chain.new wire manner config packets.now frames.items order run × IsSentBy run sent) }
     ensures stalled { (round : ℕ) → result ≡ Err (SimError.Stalled round)
-        → HasStalledUnder F.Fn chain.old wire manner config packets.now frames.items order round }
+        → HasStalledUnder F.Fn chain.old chain.new wire manner config packets.now frames.items order round }
     ensures goes_on { HasAmpleRoom config → config.closing ≡ None → manner ≡ plain_manner → (round : ℕ) → result ≡ Err (SimError.Stalled round) → ⊥ }
 {
     let (_server, sent) = run_on::<F, Unlogged>(
@@ -225,13 +223,12 @@ fn run_on<F: Fn(&[u8], u32) -> Verdict, S: Server + Drop>(
     requires lists { length packets.now ≡ config.ports }
     requires short { All HasShortPackets packets.now }
     requires obeys { AllObey F.Fn chain.old }
-    ensures once { IfOk result (λ ran. IsAskedOnce F.Fn config packets.now chain.old chain.new) }
     ensures same { SamePrograms chain.old chain.new }
     ensures obeys { AllObey F.Fn chain.new }
     ensures pairs { IfOk result (λ ran. (length ran.1.lists ≡ length config.pairs) × ((S.seen ran.0).engine.config ≡ config)) }
-    ensures ended { IfOk result (λ ran. (run : Shown) × HasEndedUnder F.Fn chain.old wire manner config packets.now frames.items order run × IsShownBy (S.seen ran.0) ran.1 run) }
+    ensures ended { IfOk result (λ ran. (run : Shown) × HasEndedUnder F.Fn chain.old chain.new wire manner config packets.now frames.items order run × IsShownBy (S.seen ran.0) ran.1 run) }
     ensures stalled { (round : ℕ) → result ≡ Err (SimError.Stalled round)
-        → HasStalledUnder F.Fn chain.old wire manner config packets.now frames.items order round }
+        → HasStalledUnder F.Fn chain.old chain.new wire manner config packets.now frames.items order round }
     ensures goes_on { HasAmpleRoom config → config.closing ≡ None → manner ≡ plain_manner → (round : ℕ) → result ≡ Err (SimError.Stalled round) → ⊥ }
 {
     let Ok(shared) = config.copy(alloc) else {
@@ -272,9 +269,9 @@ fn all_workers<'a, F: Fn(&[u8], u32) -> Verdict>(
     requires short { All HasShortPackets packets.now }
     requires obeys { AllObey F.Fn chain.old }
     ensures set { IfOk result (λ workers. (verdicts : List (List AVerdict))
+        × HasGiven F.Fn config.now packets.now verdicts chain.old chain.new
         × AreGiven (IsAnswer F.Fn chain.old) (setting_by config.now wire manner packets.now verdicts)
         × AreSet (setting_by config.now wire manner packets.now verdicts) workers) }
-    ensures once { IfOk result (λ workers. IsAskedOnce F.Fn config.now packets.now chain.old chain.new) }
     ensures same { SamePrograms chain.old chain.new }
     ensures obeys { AllObey F.Fn chain.new }
 {

@@ -71,24 +71,18 @@ module _ (c : Config) (pair : ℕ) (seat : IsSeat c pair) (l : List Told) (kept 
       (completed_first c pair seat kept (with_told l call reply) h k.some (subst (λ x. IsLegal c (with_told l call reply) pair x) k.is lawful)))
 
   pub sent_next : (wire : Wire) (input : List Judged) (next : Call) → (is_completing next ≡ true → Completes pair kept reply next) → IsLegal c (with_told l call reply) pair next
-      → sent_with c pair input (with_told l call reply) next ≡ sent_with c pair input l call ++ (bounced_in (bouncing input) call ++ sent_by (seat_of wire c pair) kept (Gave next))
+      → sent_with c pair input (with_told l call reply) next ≡ sent_with c pair input l call ++ (sent_by (seat_of wire c pair) kept (Gave next) ++ bounced_in (bouncing input) next)
   sent_next wire input next completing lawful =
-      let sent : List (List ℕ) = all_sent_from c (sockets_of c pair) (bouncing input) [] l in
-      let completed : List (List ℕ) = map (bytes_of c.geometry c.sg) (completed_in c (sockets_of c pair) l call) in
-      let bounced : List (List ℕ) = bounced_in (bouncing input) call in
-      let now : List (List ℕ) = map (bytes_of c.geometry c.sg) (completed_in c (sockets_of c pair) (with_told l call reply) next) in
-      ap (λ xs. xs ++ now) (all_sent-push c (sockets_of c pair) (bouncing input) [] l (record { call = call; reply = reply }) ∙ sym (append_assoc sent completed bounced))
-      ∙ append_assoc (sent ++ completed) bounced now
-      ∙ ap (λ xs. (sent ++ completed) ++ (bounced ++ xs)) (by_call next (is_completing next) refl completing lawful)
+      let completed : List (List ℕ) = map (bytes_of c.geometry c.sg) (completed_in c (sockets_of c pair) (with_told l call reply) next) in
+      let bounced : List (List ℕ) = bounced_in (bouncing input) next in
+      ap (λ xs. xs ++ (completed ++ bounced)) (all_sent-push c (sockets_of c pair) (bouncing input) [] l (record { call = call; reply = reply }))
+      ∙ ap (λ xs. sent_with c pair input l call ++ (xs ++ bounced)) (by_call next (is_completing next) refl completing lawful)
 
-  pub sent_end : (input : List Judged) → sent_by_act c pair input (with_told l call reply) IsEnded ≡ sent_with c pair input l call ++ (bounced_in (bouncing input) call ++ [])
+  pub sent_end : (input : List Judged) → sent_by_act c pair input (with_told l call reply) IsEnded ≡ sent_with c pair input l call ++ []
   sent_end input =
-      let sent : List (List ℕ) = all_sent_from c (sockets_of c pair) (bouncing input) [] l in
-      let completed : List (List ℕ) = map (bytes_of c.geometry c.sg) (completed_in c (sockets_of c pair) l call) in
-      let bounced : List (List ℕ) = bounced_in (bouncing input) call in
-      all_sent-push c (sockets_of c pair) (bouncing input) [] l (record { call = call; reply = reply }) ∙ sym (append_assoc sent completed bounced)
-      ∙ ap (λ xs. (sent ++ completed) ++ xs) (sym (append-nil bounced))
+      all_sent-push c (sockets_of c pair) (bouncing input) [] l (record { call = call; reply = reply }) ∙ sym (append-nil (sent_with c pair input l call))
 
--- no packet is sent before the first call, and none by it
-pub sent_first : (c : Config) (pair : ℕ) (input : List Judged) (call : Call) → is_completing call ≡ false → sent_with c pair input [] call ≡ []
-sent_first c pair input call e = ap (map (bytes_of c.geometry c.sg)) (completes_none c (sockets_of c pair) [] call e)
+-- no packet is sent before the first call, and by it none but the one that it counts as bounced
+pub sent_first : (c : Config) (pair : ℕ) (input : List Judged) (call : Call) → is_completing call ≡ false → sent_with c pair input [] call ≡ bounced_in (bouncing input) call
+sent_first c pair input call e =
+    ap (λ xs. xs ++ bounced_in (bouncing input) call) (ap (map (bytes_of c.geometry c.sg)) (completes_none c (sockets_of c pair) [] call e))

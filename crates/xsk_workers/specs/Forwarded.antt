@@ -24,6 +24,7 @@ use Rattle.xsk_machine.specs.Acts.{sent_of}
 use Rattle.xsk_machine.specs.Figured.{figures_of}
 use Rattle.xsk_machine.specs.declared.figures.Figures.{Figures}
 pub use Rattle.xsk_machine.specs.Acts.{packets_in}
+use Rattle.xsk_machine.specs.Workers.{HasGiven}
 pub use Rattle.xsk_machine.specs.Workers.{setting_by}
 use Rattle.xsk_laws.specs.Laws.{AreForwarded, AreExpected}
 use Rattle.xsk_ended.specs.Until.{AreForwardedUntil, AreExpectedUntil}
@@ -46,10 +47,11 @@ pub record HasForwarded (hands : ℕ) (s : Setting) (frames : List Frame) (o : O
   pub figures : o.figures ≡ figures_of s o.history
   pub woken : (past later : List Entry) (pair : ℕ) → o.history ≡ past ++ later → pair < length s.config.pairs → NoWakeIsLost s.config frames past pair
 
--- The same under a chain: there are verdicts of each driver's packets, each an answer of the chain that meets its programs'
--- rules, with which it has forwarded.
-pub record HasForwardedUnder {F : Type 0} (hands : ℕ) (g : Shared F (Bor (List ℕ) × (ℕ × Unit {0})) Verdict) (programs : List (XdpProgram F)) (wire : Wire) (manner : Manner) (c : Config) (packets : List PacketList) (frames : List Frame) (o : OutcomeShown) : Type 0 where
+-- The same under a chain, before and after: it was asked once of each packet that has an Ethernet header, and with the verdicts that
+-- it gave of each driver's packets, each of which meets its programs' rules, it has forwarded.
+pub record HasForwardedUnder {F : Type 0} (hands : ℕ) (g : Shared F (Bor (List ℕ) × (ℕ × Unit {0})) Verdict) (programs after : List (XdpProgram F)) (wire : Wire) (manner : Manner) (c : Config) (packets : List PacketList) (frames : List Frame) (o : OutcomeShown) : Type 0 where
   pub verdicts : List (List Verdict)
+  pub once : HasGiven g c packets verdicts programs after
   pub asked : AreGiven (IsAnswer g programs) (setting_by c wire manner packets verdicts)
   pub forwarded : HasForwarded hands (setting_by c wire manner packets verdicts) frames o
 

@@ -15,7 +15,7 @@ ghost use Rattle.xsk_workers.specs.Crew.{IsSeatOn};
 ghost use Rattle.xsk_workers.specs.Hands.{AreHands, SuitHands};
 ghost use Rattle.xsk_workers.specs.Gathering.{HaveRun, WillHaveRun, AreTaken, AreGiven, AreSent, AreFiguresOf, calls_in};
 ghost use Rattle.xsk_workers.specs.Forwarded.{HasForwarded, HasForwardedUnder, packets_in, setting_by};
-ghost use Rattle.xsk_machine.specs.Workers.{AreNew, IsAskedOnce};
+ghost use Rattle.xsk_machine.specs.Workers.{AreNew};
 
 use crate::context::{Source, Verdicts};
 use crate::crew::{Crew, run_crew};
@@ -122,19 +122,18 @@ pub fn forward<R: Threads + Wait + Sync, F: Fn(&[u8], u32) -> Verdict, G: Gate +
     hands: u32,
 ) -> Result<Outcome, OutOfMemory>
     requires hands { AreHands hands }
-    requires suit { SuitHands hands config manner }
+    requires suit { SuitHands hands config }
     requires unchanged { manner.mangle ≡ None }
     requires regular { IsRegular config }
     requires frames { AreFrames config.geometry frames.items }
     requires lists { length packets.now ≡ config.ports }
     requires short { All HasShortPackets packets.now }
     requires obeys { AllObey F.Fn chain.old }
-    ensures once { IfOk result (λ outcome. IsAskedOnce F.Fn config packets.now chain.old chain.new) }
     ensures same { SamePrograms chain.old chain.new }
     ensures obeys { AllObey F.Fn chain.new }
     ensures pairs { IfOk result (λ outcome. length outcome.sent ≡ length config.pairs) }
     ensures short { IfOk result (λ outcome. All (λ (list : List (List ℕ)). All IsShort list) outcome.sent) }
-    ensures under { IfOk result (HasForwardedUnder hands F.Fn chain.old wire manner config packets.now frames.items) }
+    ensures under { IfOk result (HasForwardedUnder hands F.Fn chain.old chain.new wire manner config packets.now frames.items) }
     ensures forwarded { are_exact (rules_of chain.old) ≡ true → IfOk result (HasForwarded hands (ruled_by (rules_of chain.old) wire manner config packets.now) frames.items) }
 {
     let own = config.copy(alloc)?;
@@ -160,7 +159,7 @@ fn run_drivers<'a, V: Verdicts + Send, R: Threads + Wait + Sync, G: Gate + Sync>
     drivers: Vec<Driver<'a>>,
 ) -> Result<Outcome, OutOfMemory>
     requires own { own.now ≡ config }
-    requires suit { SuitHands hands config manner }
+    requires suit { SuitHands hands config }
     requires unchanged { manner.mangle ≡ None }
     requires regular { IsRegular config }
     requires frames { AreFrames config.geometry frames.items }

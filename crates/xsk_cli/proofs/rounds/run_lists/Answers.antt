@@ -25,7 +25,7 @@ returns-in_err-run-clause-failed c =
     subst (λ r. IfErr r (FailsRunning c.args.layout.now c.args.programs.now c.args.wire c.args.manner c.args.order (lists_in c.args.lists.now))) (sym is)
     (failed_under _ c.in_ok-chain.chain c.args.layout.now c.args.programs.now c.args.wire c.args.manner c.args.order c.in_ok-config.config c.args.lists.now c.in_ok-config.frames.items (lists_in c.args.lists.now)
     c.in_ok-config.ensures.config c.requires.listed c.in_ok-config.ensures.frames (c.in_ok-chain.ensures.rules ∙ ap (rules_by c.args.layout.now.sockets) c.as_slice.ensures.value)
-    error (λ round stalls. c.in_err-run.ensures.stalled round (ap Err stalls)))
+    _ error (λ round stalls. c.in_err-run.ensures.stalled round (ap Err stalls)))
 
 pub returns-in_err-text-clause-failed : goal.returns-in_err-text-clause-failed
 returns-in_err-text-clause-failed c =
@@ -42,7 +42,7 @@ returns-then-journal-clause-ended c =
       run,
       ended_under _ c.in_ok-chain.chain layout c.args.programs.now c.args.wire c.args.manner c.args.order c.in_ok-config.config c.args.lists.now c.in_ok-config.frames.items (lists_in c.args.lists.now)
           c.in_ok-config.ensures.config c.requires.listed c.in_ok-config.ensures.frames (c.in_ok-chain.ensures.rules ∙ ap (rules_by layout.sockets) c.as_slice.ensures.value)
-          run c.in_ok-run.ensures.ended,
+          _ run c.in_ok-run.ensures.ended,
       record { pairs = sym c.into_sent.ensures.pairs; lists = ap (λ (s : SentShown). s.lists) (sym same); figures = ap (λ (s : SentShown). s.figures) (sym same) },
       subst (λ (asked : Bool). c.in_ok-text.text.items ≡ report_text (regular_of layout) run.figures ++ (if asked then journal_of run.pairs run.log else [])) (sym c.if-journal.true) text,
     )
@@ -55,7 +55,7 @@ returns-in_err-sent-clause-failed c =
     subst (λ r. IfErr r (FailsRunning c.args.layout.now c.args.programs.now c.args.wire c.args.manner c.args.order (lists_in c.args.lists.now))) (sym is)
     (failed_under _ c.in_ok-chain.chain c.args.layout.now c.args.programs.now c.args.wire c.args.manner c.args.order c.in_ok-config.config c.args.lists.now c.in_ok-config.frames.items (lists_in c.args.lists.now)
     c.in_ok-config.ensures.config c.requires.listed c.in_ok-config.ensures.frames (c.in_ok-chain.ensures.rules ∙ ap (rules_by c.args.layout.now.sockets) c.as_slice.ensures.value)
-    error (λ round stalls. c.in_err-sent.ensures.stalled round (ap Err stalls)))
+    _ error (λ round stalls. c.in_err-sent.ensures.stalled round (ap Err stalls)))
 
 pub returns-clause-ended : goal.returns-clause-ended
 returns-clause-ended c =
@@ -68,7 +68,7 @@ returns-clause-ended c =
       run,
       ended_under _ c.in_ok-chain.chain layout c.args.programs.now c.args.wire c.args.manner c.args.order c.in_ok-config.config c.args.lists.now c.in_ok-config.frames.items (lists_in c.args.lists.now)
           c.in_ok-config.ensures.config c.requires.listed c.in_ok-config.ensures.frames (c.in_ok-chain.ensures.rules ∙ ap (rules_by layout.sockets) c.as_slice.ensures.value)
-          run ended.1,
+          _ run ended.1,
       is,
       subst (λ (asked : Bool). c.in_ok-text-2.text.items ≡ report_text (regular_of layout) run.figures ++ (if asked then journal_of run.pairs run.log else [])) (sym c.if-journal.false) (text ∙ sym (append-nil _)),
     )

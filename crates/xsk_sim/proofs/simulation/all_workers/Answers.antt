@@ -1,6 +1,6 @@
 use Rattle.std.proofs.Common.{refl}
 use Rattle.xsk_turns.specs.Workers.{Setting}
-use Rattle.xsk_machine.specs.Workers.{IsAskedOnce, kept_in, setting_by}
+use Rattle.xsk_machine.specs.Workers.{kept_in, setting_by}
 use Rattle.xsk_sim.specs.Seats.{AreSet}
 use Rattle.xsk_sim.proofs.Verdicts.{if_ok}
 use Rattle.xsk_sim.proofs.simulation.all_workers.Goals as goal
@@ -12,10 +12,5 @@ seat_workers-requires-clause-new g c =
 pub returns-clause-set : goal.returns-clause-set
 returns-clause-set g c =
     let s : Setting = setting_by c.args.config.now c.args.wire c.args.manner c.args.packets.now (kept_in c.in_ok-drivers.drivers.items) in
-    if_ok c.seat_workers.result (AreSet s) _ (λ workers set. (s.verdicts, c.in_ok-drivers.ensures.asked c.args.manner, set))
+    if_ok c.seat_workers.result (AreSet s) _ (λ workers set. (s.verdicts, c.in_ok-drivers.ensures.once, c.in_ok-drivers.ensures.asked c.args.manner, set))
     (c.seat_workers.ensures s refl refl (c.in_ok-drivers.ensures.new c.args.manner))
-
-pub returns-clause-once : goal.returns-clause-once
-returns-clause-once g c =
-    let s : Setting = setting_by c.args.config.now c.args.wire c.args.manner c.args.packets.now (kept_in c.in_ok-drivers.drivers.items) in
-    if_ok c.seat_workers.result (AreSet s) (λ workers. IsAskedOnce g.F.Fn c.args.config.now c.args.packets.now c.args.chain.now c.drivers_for.new.chain) (λ workers set. c.in_ok-drivers.ensures.once) (c.seat_workers.ensures s refl refl (c.in_ok-drivers.ensures.new c.args.manner))

@@ -4,7 +4,7 @@ use Rattle.xsk_umem.specs.Geometry.{IsGeometry}
 use Rattle.xsk_model.specs.Config.{Config, IsConfig, IsRegular}
 use Rattle.xsk_turns.specs.Workers.{Setting, AreGiven}
 use Rattle.xsk_driver.specs.Asking.{IsAnswer}
-use Rattle.xsk_machine.specs.Workers.{setting_by, IsAskedOnce}
+use Rattle.xsk_machine.specs.Workers.{HasGiven, setting_by}
 use Rattle.xsk_sim.proofs.Verdicts.{if_ok}
 use Rattle.xsk_sim.specs.Runs.{HasEnded, HasEndedUnder, HasStalled}
 use Rattle.xsk_sim.specs.Shown.{Shown, IsShownBy}
@@ -24,15 +24,10 @@ run_workers-requires-clause-opened g c = record {
 pub run_workers-requires-clause-set : goal.run_workers-requires-clause-set
 run_workers-requires-clause-set g c =
     let set = c.in-Ok-all_workers.ensures.set in
-    (setting_by c.in-Ok.shared c.args.wire c.args.manner c.args.packets.now set.0, c.in-Ok.ensures, set.2)
+    (setting_by c.in-Ok.shared c.args.wire c.args.manner c.args.packets.now set.0, c.in-Ok.ensures, set.3)
 
 pub returns-clause-pairs : goal.returns-clause-pairs
 returns-clause-pairs g c = c.run_workers.ensures.pairs
-
-pub returns-clause-once : goal.returns-clause-once
-returns-clause-once g c =
-    if_ok c.run_workers.result _ _ (λ run pairs. subst (λ (k : Config). IsAskedOnce g.F.Fn k c.args.packets.now c.args.chain.now c.all_workers.new.chain) c.in-Ok.ensures c.in-Ok-all_workers.ensures.once)
-    c.run_workers.ensures.pairs
 
 pub returns-clause-ended : goal.returns-clause-ended
 returns-clause-ended g c =
@@ -41,12 +36,12 @@ returns-clause-ended g c =
     if_ok c.run_workers.result (λ ran. (run : Shown) × HasEnded s c.args.frames.items c.args.order run × IsShownBy (g.S.Server.seen ran.0) ran.1 run) _
     (λ ran is. (
       is.0,
-      subst (λ (k : Config). HasEndedUnder g.F.Fn c.args.chain.now c.args.wire c.args.manner k c.args.packets.now c.args.frames.items c.args.order is.0) c.in-Ok.ensures
-          (record { verdicts = set.0; asked = set.1; ended = is.1 }),
+      subst (λ (k : Config). HasEndedUnder g.F.Fn c.args.chain.now c.all_workers.new.chain c.args.wire c.args.manner k c.args.packets.now c.args.frames.items c.args.order is.0) c.in-Ok.ensures
+          (record { verdicts = set.0; once = set.1; asked = set.2; ended = is.1 }),
       is.2,
     ))
     (subst (λ (number : ℕ). IfOk c.run_workers.result (λ ran. (run : Shown) × HasEnded s c.args.frames.items number run × IsShownBy (g.S.Server.seen ran.0) ran.1 run)) c.new.ensures
-    (c.run_workers.ensures.ended s c.in-Ok.ensures (subst IsRegular (sym c.in-Ok.ensures) c.requires.regular) set.2 c.classes.ensures refl refl))
+    (c.run_workers.ensures.ended s c.in-Ok.ensures (subst IsRegular (sym c.in-Ok.ensures) c.requires.regular) set.3 c.classes.ensures refl refl))
 
 -- a run that has stalled
 stalls : (g : given.Over) (c : goal.After-drop-shared-inside-4 g) (round : ℕ) → c.run_workers.result ≡ Err (Stalled round)
@@ -55,7 +50,7 @@ stalls g c round is =
     let set = c.in-Ok-all_workers.ensures.set in
     let s : Setting = setting_by c.in-Ok.shared c.args.wire c.args.manner c.args.packets.now set.0 in
     subst (λ (k : Config). HasStalled (setting_by k c.args.wire c.args.manner c.args.packets.now set.0) c.args.frames.items c.args.order round) c.in-Ok.ensures
-    (subst (λ (number : ℕ). HasStalled s c.args.frames.items number round) c.new.ensures (c.run_workers.ensures.stalled s round c.in-Ok.ensures set.2 is))
+    (subst (λ (number : ℕ). HasStalled s c.args.frames.items number round) c.new.ensures (c.run_workers.ensures.stalled s round c.in-Ok.ensures set.3 is))
 
 pub returns-clause-goes_on : goal.returns-clause-goes_on
 returns-clause-goes_on g c ample closes whole round is =
@@ -66,6 +61,7 @@ returns-clause-goes_on g c ample closes whole round is =
 pub returns-clause-stalled : goal.returns-clause-stalled
 returns-clause-stalled g c round is = record {
   verdicts = c.in-Ok-all_workers.ensures.set.0;
-  asked = subst (λ (k : Config). AreGiven (IsAnswer g.F.Fn c.args.chain.now) (setting_by k c.args.wire c.args.manner c.args.packets.now c.in-Ok-all_workers.ensures.set.0)) c.in-Ok.ensures c.in-Ok-all_workers.ensures.set.1;
+  once = subst (λ (k : Config). HasGiven g.F.Fn k c.args.packets.now c.in-Ok-all_workers.ensures.set.0 c.args.chain.now c.all_workers.new.chain) c.in-Ok.ensures c.in-Ok-all_workers.ensures.set.1;
+  asked = subst (λ (k : Config). AreGiven (IsAnswer g.F.Fn c.args.chain.now) (setting_by k c.args.wire c.args.manner c.args.packets.now c.in-Ok-all_workers.ensures.set.0)) c.in-Ok.ensures c.in-Ok-all_workers.ensures.set.2;
   stalled = stalls g c round is;
 }

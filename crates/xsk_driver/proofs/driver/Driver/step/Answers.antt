@@ -14,14 +14,15 @@ returns-clause-begins c wire config pair input new none =
     let view = sym c.self.view_is in
     stands_new wire config pair input c.self.inside.machine c.step.new.self c.args.self.now _ (joined_ask c.step.new.next c.step.new.items)
     (record { seat = ap (λ (d : Shown). d.seat) view; wait = ap (λ (d : Shown). d.wait) view; noted = ap (λ (d : Shown). d.noted) view; kept = ap (λ (d : Shown). d.kept) view; sent = ap (λ (d : Shown). d.sent) view })
-    (record { seat = refl; wait = refl; noted = refl; kept = refl; sent = refl }) c.step.ensures.limits.seat new (c.step.ensures.begins (none_joined c.args.answer c.args.items.now none)) (c.step.ensures.sends_first (none_joined c.args.answer c.args.items.now none)) c.step.ensures.counts
+    (record { seat = refl; wait = refl; noted = refl; kept = refl; sent = refl }) c.step.ensures.limits.seat new (c.step.ensures.begins (none_joined c.args.answer c.args.items.now none)) (c.step.ensures.quiet_first (none_joined c.args.answer c.args.items.now none))
+    (c.step.ensures.sends_first (none_joined c.args.answer c.args.items.now none))
 
 pub returns-clause-goes_on : goal.returns-clause-goes_on
 returns-clause-goes_on c wire config pair input l call r stands same fits =
     let view = sym c.self.view_is in
     stands_next wire config pair input c.self.inside.machine c.step.new.self c.args.self.now _ (joined_ask c.step.new.next c.step.new.items) call r l
     (record { seat = ap (λ (d : Shown). d.seat) view; wait = ap (λ (d : Shown). d.wait) view; noted = ap (λ (d : Shown). d.noted) view; kept = ap (λ (d : Shown). d.kept) view; sent = ap (λ (d : Shown). d.sent) view })
-    (record { seat = refl; wait = refl; noted = refl; kept = refl; sent = refl }) c.step.ensures.limits.seat stands fits (c.step.ensures.goes r same) (c.step.ensures.completes r same) (c.step.ensures.sends r same) c.step.ensures.counts
+    (record { seat = refl; wait = refl; noted = refl; kept = refl; sent = refl }) c.step.ensures.limits.seat stands fits (c.step.ensures.goes r same) (c.step.ensures.completes r same) (c.step.ensures.sends r same)
 
 pub returns-clause-tells_first : goal.returns-clause-tells_first
 returns-clause-tells_first c wire config pair input new none =

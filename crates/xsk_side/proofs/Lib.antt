@@ -1,0 +1,12 @@
+pub mod First
+pub mod Wider
+pub mod Lists
+pub mod Rings
+pub mod Frames
+pub mod Holders
+pub mod Bounds
+pub mod Given
+pub mod Strays
+pub mod Fits
+pub mod Late
+pub mod Local

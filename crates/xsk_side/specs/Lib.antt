@@ -1,0 +1,9 @@
+pub mod Setting
+pub mod Entries
+pub mod Object
+pub mod Own
+pub mod Legal
+pub mod Possible
+pub mod Local
+pub mod Laws
+pub mod Parts
