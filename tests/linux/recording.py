@@ -22,13 +22,13 @@ def built():
     return subprocess.run(["make", "-s", "-C", TOP], stdout=subprocess.DEVNULL, stderr=subprocess.DEVNULL, check=False).returncode == 0
 
 
-def run(program, folder, *words, signal_behind=None, environment=None):
+def run(program, folder, *words, ended_by=signal.SIGINT):
     """Runs a forwarder over two ports, with packets from both sides: its status and what it told, and the files of its recording."""
     for number in (0, 1):
         veth(f"v{number}", f"t{number}")
     record = os.path.join(folder, "run")
-    with subprocess.Popen([os.path.join(TOP, "out", program), "-i", "400", *words, "v0", "v1"], stdout=subprocess.PIPE,
-                          stderr=subprocess.PIPE, text=True, env={**os.environ, "XSK_RECORD": record, **(environment or {})}) as process:
+    with subprocess.Popen([os.path.join(TOP, "out", program), "-i", "20000", *words, "v0", "v1"], stdout=subprocess.PIPE,
+                          stderr=subprocess.PIPE, text=True, env={**os.environ, "XSK_RECORD": record}) as process:
         process.stdout.readline()
         wires = Wire("t0"), Wire("t1")
         for number in range(PACKETS):
@@ -36,14 +36,9 @@ def run(program, folder, *words, signal_behind=None, environment=None):
                 wire.socket.send(packet(60 + number, number % 256))
             if number % 4 == 3:
                 time.sleep(0.001)
-        if signal_behind:
-            time.sleep(0.1)
-            process.send_signal(signal_behind)
-        try:
-            out, faults = process.communicate(timeout=10)
-        except subprocess.TimeoutExpired:
-            process.send_signal(signal.SIGINT)
-            out, faults = process.communicate()
+        time.sleep(0.5)
+        process.send_signal(ended_by)
+        out, faults = process.communicate()
     return process.returncode, out, faults, sorted(os.path.join(folder, name) for name in os.listdir(folder) if name.startswith("run."))
 
 
@@ -110,7 +105,7 @@ def killed():
     if not built():
         return
     with tempfile.TemporaryDirectory() as folder:
-        status, _, _, files = run("l2fwd-recorded", folder, signal_behind=signal.SIGKILL)
+        status, _, _, files = run("l2fwd-recorded", folder, ended_by=signal.SIGKILL)
         yield "status", status, -signal.SIGKILL
         status, told, text = merged(files, folder)
         yield "xsk-merge", (status, "didn't come to its exit" in told), (0, True)
