@@ -141,9 +141,30 @@ fn an_output_that_is_another_is_a_fault(rt: HostRuntime) {
     assert!(rt; makes(&rt, "twice.tmp", b"older"));
     assert!(rt; symlink(&rt, "twice.tmp", "twice-link.tmp").is_ok());
     assert!(rt; !opens(&rt, rt.alloc(), "twice-in.tmp", ["twice.tmp", "twice.tmp"]));
-    assert!(rt; !opens(&rt, rt.alloc(), "twice-in.tmp", ["twice.tmp", "twice-link.tmp"]));
-    assert!(rt; !opens(&rt, rt.alloc(), "twice-in.tmp", ["twice-new.tmp", "twice-new.tmp"]));
-    assert!(rt; opens(&rt, rt.alloc(), "twice-in.tmp", ["twice.tmp", "twice-new.tmp"]));
+    assert!(rt;
+        !opens(
+            &rt,
+            rt.alloc(),
+            "twice-in.tmp",
+            ["twice.tmp", "twice-link.tmp"]
+        )
+    );
+    assert!(rt;
+        !opens(
+            &rt,
+            rt.alloc(),
+            "twice-in.tmp",
+            ["twice-new.tmp", "twice-new.tmp"]
+        )
+    );
+    assert!(rt;
+        opens(
+            &rt,
+            rt.alloc(),
+            "twice-in.tmp",
+            ["twice.tmp", "twice-new.tmp"]
+        )
+    );
     assert!(rt; holds(&rt, "twice.tmp", b""));
 }
 

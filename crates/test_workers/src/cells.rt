@@ -7,9 +7,9 @@ use crate::texts::{tell_last, tell_number};
 use crate::trouble::Trouble;
 use crate::words::{Line, number, three_numbers, two_numbers};
 use std::alloc::Global;
-use xsk_prog::{Miss, redirect};
 use xsk_model::{Config, Ring};
 use xsk_plain::Plain;
+use xsk_prog::{Miss, redirect};
 
 /// Tells what further lines ask for.
 pub(crate) fn tell_config(

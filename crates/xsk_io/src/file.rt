@@ -5,8 +5,8 @@ ghost use Rattle.xsk_io.specs.Files.{StreamCounts, FilesState, no_counts, no_fil
 
 use crate::counts::Counts;
 use crate::{Bay, BayFailed, Stream};
-use std::io::{ErrorKind, Read, Write};
 use std::fs::{OpenFile, OpenOptions};
+use std::io::{ErrorKind, Read, Write};
 use std::marker::Model;
 use std::os::unix::fs::MetadataExt;
 use std::rt::Files;
@@ -144,10 +144,12 @@ fn is_open_as<F: OpenFile>(slot: &Option<F>, regular: Regular) -> io::Result<boo
 impl<F: OpenFile + Drop> Slots<F> {
     /// Whether one of the files that are open is this regular file.
     fn have(&self, regular: Regular) -> io::Result<bool> {
-        Ok(is_open_as(&self.first, regular)?
-            || is_open_as(&self.second, regular)?
-            || is_open_as(&self.third, regular)?
-            || is_open_as(&self.fourth, regular)?)
+        Ok(
+            is_open_as(&self.first, regular)?
+                || is_open_as(&self.second, regular)?
+                || is_open_as(&self.third, regular)?
+                || is_open_as(&self.fourth, regular)?,
+        )
     }
 }
 

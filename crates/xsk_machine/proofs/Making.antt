@@ -97,8 +97,8 @@ module _ {F : Type 0} (g : Shared F (Bor (List ℕ) × (ℕ × Unit {0})) Verdic
       let joined : one_list (kept ++ verdicts ∷ []) ≡ one_list kept ++ verdicts =
       flat_map-append (λ (pair : List Verdict). pair) kept (verdicts ∷ []) ∙ ap (λ vs. one_list kept ++ vs) (append-nil verdicts) in record {
         once = subst (λ vs. AreAsked g (flat_map questions (take (n + 1) c.pairs)) vs programs after) (sym joined)
-        (subst (λ qs. AreAsked g qs (one_list kept ++ verdicts) programs after) (sym more)
-        (asked-append g (flat_map questions (take n c.pairs)) (questions (pair_at c.pairs n)) (one_list kept) verdicts programs now after h.once asked));
+            (subst (λ qs. AreAsked g qs (one_list kept ++ verdicts) programs after) (sym more)
+            (asked-append g (flat_map questions (take n c.pairs)) (questions (pair_at c.pairs n)) (one_list kept) verdicts programs now after h.once asked));
         same = same_all g (questions (pair_at c.pairs n)) verdicts now after asked ∙ h.same;
         obeys = obeys;
       }

@@ -17,8 +17,8 @@ cut s h [] calls legal is = record { history = h; legal = legal; own = is }
 cut s [] (c ∷ later) calls legal is = absurd (cc)
 cut s (e ∷ past) (c ∷ later) calls legal is =
     (elim (e.who) as (λ who. cond (is_party Program who) (e.call ∷ own Program past) (own Program past) ≡ c ∷ (later ++ calls) → Possible s calls) [
-      Program ↦ λ same. cut s past later calls legal.0 (tail_is e.call c (own Program past) (later ++ calls) same)
-    | Kernel ↦ λ same. cut s past (c ∷ later) calls legal.0 same
+      | Program ↦ λ same. cut s past later calls legal.0 (tail_is e.call c (own Program past) (later ++ calls) same)
+      | Kernel ↦ λ same. cut s past (c ∷ later) calls legal.0 same
     ]) is
 
 pub first_parts : FirstParts

@@ -49,26 +49,26 @@ other_way r q h = ⊎_elim (λ (e : q ≡ r). absurd (not_same r q h (sym e))) (
 pub moved : (t t' : ℕ) (o o' : Ring → ℕ) (q : Ring) → t + o q ≡ t' + o' q → ((r : Ring) → is_ring r q ≡ false → o' r ≡ o r) → IsAlone t o → IsAlone t' o'
 moved t t' o o' q keeps others h = record {
   alone = λ r. ⊎_elim
-    (λ (e : r ≡ q). subst (λ x. t' + o' x ≤ 1) (sym e) (omega (arith, h.alone q, keeps)))
-    (λ (e : is_ring r q ≡ false). omega (arith, h.alone q, h.alone r, h.apart r q e, keeps, others r e))
-    (same_or r q);
+      (λ (e : r ≡ q). subst (λ x. t' + o' x ≤ 1) (sym e) (omega (arith, h.alone q, keeps)))
+      (λ (e : is_ring r q ≡ false). omega (arith, h.alone q, h.alone r, h.apart r q e, keeps, others r e))
+      (same_or r q);
   apart = λ r x d. ⊎_elim
-    (λ (e : r ≡ q).
+      (λ (e : r ≡ q).
       let off : is_ring x q ≡ false = other_way q x (subst (λ y. is_ring y x ≡ false) e d) in
       subst (λ y. o' y + o' x ≤ 1) (sym e) (omega (arith, h.alone q, h.alone x, h.apart x q off, keeps, others x off)))
-    (λ (e : is_ring r q ≡ false). ⊎_elim
+      (λ (e : is_ring r q ≡ false). ⊎_elim
       (λ (k : x ≡ q). subst (λ y. o' r + o' y ≤ 1) (sym k) (omega (arith, h.alone q, h.alone r, h.apart r q e, keeps, others r e)))
       (λ (k : is_ring x q ≡ false). omega (arith, h.apart r x d, others r e, others x k))
       (same_or x q))
-    (same_or r q);
+      (same_or r q);
   somewhere =
-    let here : 1 ≤ t' + o' q → (1 ≤ t') ⊎ ((r : Ring) × (1 ≤ o' r)) = λ some. ⊎_elim (λ (a : 1 ≤ t'). inl a) (λ (b : 1 ≤ o' q). inr (q, b)) (positive t' (o' q) some) in
-    ⊎_elim
+      let here : 1 ≤ t' + o' q → (1 ≤ t') ⊎ ((r : Ring) × (1 ≤ o' r)) = λ some. ⊎_elim (λ (a : 1 ≤ t'). inl a) (λ (b : 1 ≤ o' q). inr (q, b)) (positive t' (o' q) some) in
+      ⊎_elim
       (λ (a : 1 ≤ t). here (omega (arith, a, keeps)))
       (λ (b : (r : Ring) × (1 ≤ o r)). ⊎_elim
-        (λ (e : b.0 ≡ q). let at_q : 1 ≤ o q = subst (λ y. 1 ≤ o y) e b.1 in here (omega (arith, at_q, keeps)))
-        (λ (e : is_ring b.0 q ≡ false). let still : 1 ≤ o' b.0 = omega (arith, b.1, others b.0 e) in inr (b.0, still))
-        (same_or b.0 q))
+      (λ (e : b.0 ≡ q). let at_q : 1 ≤ o q = subst (λ y. 1 ≤ o y) e b.1 in here (omega (arith, at_q, keeps)))
+      (λ (e : is_ring b.0 q ≡ false). let still : 1 ≤ o' b.0 = omega (arith, b.1, others b.0 e) in inr (b.0, still))
+      (same_or b.0 q))
       h.somewhere;
 }
 
@@ -81,18 +81,18 @@ pub record IsFresh (with_program : ℕ) (held : Ring → ℕ) : Type 0 where
 fresh_moved : (p p' : ℕ) (u u' : Ring → ℕ) (q : Ring) → p ≤ 1 → p + u' q ≤ p' + u q → ((r : Ring) → is_ring r q ≡ false → u' r ≡ u r) → IsFresh p u → IsFresh p' u'
 fresh_moved p p' u u' q one keeps others h = record {
   few = λ r. ⊎_elim
-    (λ (e : r ≡ q). subst (λ x. u' x ≤ p') (sym e) (omega (arith, h.few q, keeps)))
-    (λ (e : is_ring r q ≡ false). omega (arith, h.few q, h.apart r q e, keeps, others r e))
-    (same_or r q);
+      (λ (e : r ≡ q). subst (λ x. u' x ≤ p') (sym e) (omega (arith, h.few q, keeps)))
+      (λ (e : is_ring r q ≡ false). omega (arith, h.few q, h.apart r q e, keeps, others r e))
+      (same_or r q);
   apart = λ r x d. ⊎_elim
-    (λ (e : r ≡ q).
+      (λ (e : r ≡ q).
       let off : is_ring x q ≡ false = other_way q x (subst (λ y. is_ring y x ≡ false) e d) in
       subst (λ y. u' y + u' x ≤ p') (sym e) (omega (arith, h.few q, h.apart x q off, keeps, others x off)))
-    (λ (e : is_ring r q ≡ false). ⊎_elim
+      (λ (e : is_ring r q ≡ false). ⊎_elim
       (λ (k : x ≡ q). subst (λ y. u' r + u' y ≤ p') (sym k) (omega (arith, h.few q, h.apart r q e, keeps, others r e)))
       (λ (k : is_ring x q ≡ false). omega (arith, one, h.few q, h.apart r x d, h.apart r q e, h.apart x q k, keeps, others r e, others x k))
       (same_or x q))
-    (same_or r q);
+      (same_or r q);
 }
 
 abbrev pub times_fresh : Setting → ℕ → List Held → ℕ
@@ -120,12 +120,13 @@ touched : (u inside : Bool) (count : ℕ → ℕ) (x f : ℕ)
 touched u inside count x f = ⊎_elim
     (λ (e : x ≡ f). ap (λ y. number ((u && not (inside && nat_lt 0 (count y))) && (inside && x == f))) e ∙ cut u inside (x == f) (nat_lt 0 (count f)))
     (λ (e : x ≡ f → ⊥). ap (λ b. number ((u && not (inside && nat_lt 0 (count x))) && (inside && b))) (ne_eqb x f e)
-      ∙ off (u && not (inside && nat_lt 0 (count x))) u inside (nat_lt 0 (count f))
-      ∙ ap (λ b. cond (nat_lt 0 (count f)) 0 (number (u && (inside && b)))) (sym (ne_eqb x f e)))
+    ∙ off (u && not (inside && nat_lt 0 (count x))) u inside (nat_lt 0 (count f))
+    ∙ ap (λ b. cond (nat_lt 0 (count f)) 0 (number (u && (inside && b)))) (sym (ne_eqb x f e)))
     (cases_eq x f)
   where
     cut : (u inside same some : Bool) → ◌≡◌ {A = ℕ} (number ((u && not (inside && some)) && (inside && same))) (cond some 0 (number (u && (inside && same))))
     cut u inside same some = grind arith
+
     off : (a u inside some : Bool) → ◌≡◌ {A = ℕ} (number (a && (inside && false))) (cond some 0 (number (u && (inside && false))))
     off a u inside some = grind arith
 
@@ -282,39 +283,39 @@ fresh_step s f past Program (Free r n places) now reply sound = sound.fresh
 fresh_step s f past Program (Submit r es) now reply sound =
     let mine = own Program past in
     fresh_cut (nat_lt 0 (times s f es)) (has_frame s f mine) (λ q. times_fresh s f (held_of s q mine)) (λ q. times_fresh s f (map (touch s es) (held_of s q mine)))
-      (λ q. times_fresh-touch s f es (held_of s q mine)) sound.fresh
+    (λ q. times_fresh-touch s f es (held_of s q mine)) sound.fresh
 fresh_step s f past Program (Peek r n es) now reply sound =
     let mine = own Program past in let has = has_frame s f mine in
     let front = times-front s f es (ring_at r past).out reply.1 in
     let comes = come (times s f es) has (omega (arith, front, sound.place.alone r)) in
     let here : times_fresh s f (held_of s r (Peek r n es ∷ mine)) ≡ times_fresh s f (held_of s r mine) + times s f es =
-      ap (λ b. times_fresh s f (cond b (held_of s r mine ++ map fresh es) (held_of s r mine))) (is_ring-self r)
-      ∙ times_fresh-append s f (held_of s r mine) (map fresh es)
-      ∙ ap (λ k. times_fresh s f (held_of s r mine) + k) (times_fresh-fresh s f es) in
+    ap (λ b. times_fresh s f (cond b (held_of s r mine ++ map fresh es) (held_of s r mine))) (is_ring-self r)
+    ∙ times_fresh-append s f (held_of s r mine) (map fresh es)
+    ∙ ap (λ k. times_fresh s f (held_of s r mine) + k) (times_fresh-fresh s f es) in
     fresh_moved (number has) (number (has_frame s f (Peek r n es ∷ mine))) (λ q. times_fresh s f (held_of s q mine)) (λ q. times_fresh s f (held_of s q (Peek r n es ∷ mine))) r
-      (at_most_one has) (omega (arith, here, comes))
-      (λ q off. ap (times_fresh s f) (is_false (is_ring q r) (held_of s q mine ++ map fresh es) (held_of s q mine) off))
-      sound.fresh
+    (at_most_one has) (omega (arith, here, comes))
+    (λ q off. ap (times_fresh s f) (is_false (is_ring q r) (held_of s q mine ++ map fresh es) (held_of s q mine) off))
+    sound.fresh
 fresh_step s f past Program (Release r n) now reply sound =
     let mine = own Program past in let has = has_frame s f mine in
     let here : times_fresh s f (held_of s r (Release r n ∷ mine)) ≡ times_fresh s f (drop n (held_of s r mine)) =
-      ap (λ b. times_fresh s f (cond b (drop n (held_of s r mine)) (held_of s r mine))) (is_ring-self r) in
+    ap (λ b. times_fresh s f (cond b (drop n (held_of s r mine)) (held_of s r mine))) (is_ring-self r) in
     fresh_moved (number has) (number has) (λ q. times_fresh s f (held_of s q mine)) (λ q. times_fresh s f (held_of s q (Release r n ∷ mine))) r
-      (at_most_one has) (omega (arith, here, fresh_split s f n (held_of s r mine)))
-      (λ q off. ap (times_fresh s f) (is_false (is_ring q r) (drop n (held_of s q mine)) (held_of s q mine) off))
-      sound.fresh
+    (at_most_one has) (omega (arith, here, fresh_split s f n (held_of s r mine)))
+    (λ q off. ap (times_fresh s f) (is_false (is_ring q r) (drop n (held_of s q mine)) (held_of s q mine) off))
+    sound.fresh
   where
     fresh_split : (s : Setting) (f n : ℕ) (held : List Held) → times_fresh s f (drop n held) ≤ times_fresh s f held
     fresh_split s f n held = omega (arith, times_fresh-append s f (take n held) (drop n held), ap (times_fresh s f) (take-append-drop n held))
 fresh_step s f past Program (Cancel r n) now reply sound =
     let mine = own Program past in let has = has_frame s f mine in
     let here : times_fresh s f (held_of s r (Cancel r n ∷ mine)) ≡ times_fresh s f (but_last n (held_of s r mine)) =
-      ap (λ b. times_fresh s f (cond b (but_last n (held_of s r mine)) (held_of s r mine))) (is_ring-self r) in
+    ap (λ b. times_fresh s f (cond b (but_last n (held_of s r mine)) (held_of s r mine))) (is_ring-self r) in
     let goes = gone (times s f (put_back s mine r n)) has (few_put_back s past f r n sound now.untouched) in
     fresh_moved (number has) (number (has_frame s f (Cancel r n ∷ mine))) (λ q. times_fresh s f (held_of s q mine)) (λ q. times_fresh s f (held_of s q (Cancel r n ∷ mine))) r
-      (at_most_one has) (omega (arith, here, goes, back_fresh s f mine r n now.untouched))
-      (λ q off. ap (times_fresh s f) (is_false (is_ring q r) (but_last n (held_of s q mine)) (held_of s q mine) off))
-      sound.fresh
+    (at_most_one has) (omega (arith, here, goes, back_fresh s f mine r n now.untouched))
+    (λ q off. ap (times_fresh s f) (is_false (is_ring q r) (but_last n (held_of s q mine)) (held_of s q mine) off))
+    sound.fresh
 
 pub frames_sound : (s : Setting) (h : List Entry) (f : ℕ) → IsHistory s h → IsFrameSound s h f
 frames_sound s [] f legal = record {
@@ -326,12 +327,12 @@ frames_sound s (e ∷ past) f legal =
     let q = ring_of e.call in
     record {
       place = moved
-        (number (has_frame s f (own Program past)) + number (is_some (source_of s (own Kernel past) f)))
-        (number (has_frame s f (own Program (e ∷ past))) + number (is_some (source_of s (own Kernel (e ∷ past)) f)))
-        (λ r. times s f (ring_at r past).out) (λ r. times s f (ring_at r (e ∷ past)).out) q
-        (sym (keeps_sum s f past e.who e.call legal.0 legal.1 legal.2 sound)
+          (number (has_frame s f (own Program past)) + number (is_some (source_of s (own Kernel past) f)))
+          (number (has_frame s f (own Program (e ∷ past))) + number (is_some (source_of s (own Kernel (e ∷ past)) f)))
+          (λ r. times s f (ring_at r past).out) (λ r. times s f (ring_at r (e ∷ past)).out) q
+          (sym (keeps_sum s f past e.who e.call legal.0 legal.1 legal.2 sound)
           ∙ ap (λ (ring : RingState). sum_at s f (e ∷ past) ring.out) (sym (ring_here past e.who e.call)))
-        (λ r off. ap (λ (ring : RingState). times s f ring.out) (ring_else r past e.who e.call off))
-        sound.place;
+          (λ r off. ap (λ (ring : RingState). times s f ring.out) (ring_else r past e.who e.call off))
+          sound.place;
       fresh = fresh_step s f past e.who e.call legal.1 legal.2 sound;
     }

@@ -47,9 +47,9 @@ pub one_holder : OneHolder
 one_holder s h f legal =
     let sound = frames_sound s h f legal in
     ⊎_elim
-      (λ (a : 1 ≤ number (has_frame s f (own Program h)) + number (is_some (source_of s (own Kernel h) f))). ⊎_elim
-        (λ (p : 1 ≤ number (has_frame s f (own Program h))). held_once s h f sound (By Program) p)
-        (λ (k : 1 ≤ number (is_some (source_of s (own Kernel h) f))). held_once s h f sound (By Kernel) k)
-        (positive (number (has_frame s f (own Program h))) (number (is_some (source_of s (own Kernel h) f))) a))
-      (λ (b : (r : Ring) × (1 ≤ times s f (ring_at r h).out)). held_once s h f sound (In b.0) b.1)
-      sound.place.somewhere
+    (λ (a : 1 ≤ number (has_frame s f (own Program h)) + number (is_some (source_of s (own Kernel h) f))). ⊎_elim
+    (λ (p : 1 ≤ number (has_frame s f (own Program h))). held_once s h f sound (By Program) p)
+    (λ (k : 1 ≤ number (is_some (source_of s (own Kernel h) f))). held_once s h f sound (By Kernel) k)
+    (positive (number (has_frame s f (own Program h))) (number (is_some (source_of s (own Kernel h) f))) a))
+    (λ (b : (r : Ring) × (1 ≤ times s f (ring_at r h).out)). held_once s h f sound (In b.0) b.1)
+    sound.place.somewhere

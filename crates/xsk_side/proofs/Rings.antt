@@ -130,17 +130,17 @@ pub held_step : (s : Setting) (past : List Entry) (who : Party) (call : Call) (r
     → (ring_at r (entry who call ∷ past)).held ≡ map entry_of (held_of s r (own (consumer r) (entry who call ∷ past)))
 held_step s past who call r role is = ⊎_elim
     (λ (e : r ≡ ring_of call). subst
-      (λ q. (ring_at q past).held ≡ map entry_of (held_of s q (own (consumer q) past))
-        → (ring_at q (entry who call ∷ past)).held ≡ map entry_of (held_of s q (own (consumer q) (entry who call ∷ past))))
-      (sym e)
-      (λ here. ap (λ (ring : RingState). ring.held) (ring_here past who call)
-        ∙ held-here s who call (ring_at (ring_of call) past) (held_of s (ring_of call) (own (consumer (ring_of call)) past)) role here
-        ∙ ap (map entry_of) (sym (held-cond s (ring_of call) (is_party (consumer (ring_of call)) who) call (own (consumer (ring_of call)) past))))
-      is)
+    (λ q. (ring_at q past).held ≡ map entry_of (held_of s q (own (consumer q) past))
+    → (ring_at q (entry who call ∷ past)).held ≡ map entry_of (held_of s q (own (consumer q) (entry who call ∷ past))))
+    (sym e)
+    (λ here. ap (λ (ring : RingState). ring.held) (ring_here past who call)
+    ∙ held-here s who call (ring_at (ring_of call) past) (held_of s (ring_of call) (own (consumer (ring_of call)) past)) role here
+    ∙ ap (map entry_of) (sym (held-cond s (ring_of call) (is_party (consumer (ring_of call)) who) call (own (consumer (ring_of call)) past))))
+    is)
     (λ (e : is_ring r (ring_of call) ≡ false). ap (λ (ring : RingState). ring.held) (ring_else r past who call e)
-      ∙ is
-      ∙ sym (entries_either s r (held_of s r (own (consumer r) past)) call (is_party (consumer r) who) e)
-      ∙ ap (map entry_of) (sym (held-cond s r (is_party (consumer r) who) call (own (consumer r) past))))
+    ∙ is
+    ∙ sym (entries_either s r (held_of s r (own (consumer r) past)) call (is_party (consumer r) who) e)
+    ∙ ap (map entry_of) (sym (held-cond s r (is_party (consumer r) who) call (own (consumer r) past))))
     (same_or r (ring_of call))
 
 -- ---- room
@@ -177,20 +177,20 @@ pub room_step : (past : List Entry) (who : Party) (call : Call) (r : Ring) → H
     → (ring_at r (entry who call ∷ past)).room ≡ room_of r (own (producer r) (entry who call ∷ past))
 room_step past who call r role is = ⊎_elim
     (λ (e : r ≡ ring_of call). subst
-      (λ q. (ring_at q past).room ≡ room_of q (own (producer q) past)
-        → (ring_at q (entry who call ∷ past)).room ≡ room_of q (own (producer q) (entry who call ∷ past)))
-      (sym e)
-      (λ here. let q = ring_of call in let mine = own (producer q) past in
-        ap (λ (ring : RingState). ring.room) (ring_here past who call)
-        ∙ room-here who call (ring_at q past) (room_of q mine) role here
-        ∙ ap (λ b. cond (is_party (producer q) who) (cond b (room_after (room_of q mine) call) (room_of q mine)) (room_of q mine)) (sym (is_ring-self q))
-        ∙ sym (room-cond q (is_party (producer q) who) call mine))
-      is)
+    (λ q. (ring_at q past).room ≡ room_of q (own (producer q) past)
+    → (ring_at q (entry who call ∷ past)).room ≡ room_of q (own (producer q) (entry who call ∷ past)))
+    (sym e)
+    (λ here. let q = ring_of call in let mine = own (producer q) past in
+    ap (λ (ring : RingState). ring.room) (ring_here past who call)
+    ∙ room-here who call (ring_at q past) (room_of q mine) role here
+    ∙ ap (λ b. cond (is_party (producer q) who) (cond b (room_after (room_of q mine) call) (room_of q mine)) (room_of q mine)) (sym (is_ring-self q))
+    ∙ sym (room-cond q (is_party (producer q) who) call mine))
+    is)
     (λ (e : is_ring r (ring_of call) ≡ false). let mine = own (producer r) past in
-      ap (λ (ring : RingState). ring.room) (ring_else r past who call e)
-      ∙ is
-      ∙ sym (room-else (is_party (producer r) who) (is_ring r (ring_of call)) (room_after (room_of r mine) call) (room_of r mine) e)
-      ∙ sym (room-cond r (is_party (producer r) who) call mine))
+    ap (λ (ring : RingState). ring.room) (ring_else r past who call e)
+    ∙ is
+    ∙ sym (room-else (is_party (producer r) who) (is_ring r (ring_of call)) (room_after (room_of r mine) call) (room_of r mine) e)
+    ∙ sym (room-cond r (is_party (producer r) who) call mine))
     (same_or r (ring_of call))
 
 -- ---- the size
@@ -246,10 +246,10 @@ within_step : (s : Setting) (past : List Entry) (who : Party) (call : Call) (r :
     → filled (ring_at r (entry who call ∷ past)) ≤ size_of s r
 within_step s past who call r legal reply sound = ⊎_elim
     (λ (e : r ≡ ring_of call). let q = ring_of call in subst
-      (λ x. filled (ring_at x (entry who call ∷ past)) ≤ size_of s x)
-      (sym e)
-      (subst (λ ring. filled ring ≤ size_of s q) (sym (ring_here past who call))
-        (fits_here (ring_at q past) (size_of s q) call (sound q).within reply (has_room s past who call legal.role legal.counted (sound q).room))))
+    (λ x. filled (ring_at x (entry who call ∷ past)) ≤ size_of s x)
+    (sym e)
+    (subst (λ ring. filled ring ≤ size_of s q) (sym (ring_here past who call))
+    (fits_here (ring_at q past) (size_of s q) call (sound q).within reply (has_room s past who call legal.role legal.counted (sound q).room))))
     (λ (e : is_ring r (ring_of call) ≡ false). subst (λ ring. filled ring ≤ size_of s r) (sym (ring_else r past who call e)) (sound r).within)
     (same_or r (ring_of call))
 

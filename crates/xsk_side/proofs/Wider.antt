@@ -29,7 +29,7 @@ received : (s : Setting) (wider : Rules) (from : ℕ → Option Ring) (socket : 
     → IsReceived s from socket e → IsReceived (bound_less s wider) from socket e
 received s wider from socket e is h = record {
   lawful = weaker (is_inside s.geometry e) (has_bytes e) (fits_chunk s.geometry e) (e.options == 0) (e.options == 1) (is_laid s e)
-    s.rules.sg wider.sg s.rules.at_data wider.at_data is.sg is.at_data h.lawful;
+      s.rules.sg wider.sg s.rules.at_data wider.at_data is.sg is.at_data h.lawful;
   pair = h.pair;
   filled = h.filled;
   feeds = λ own. h.feeds (is.own own);
