@@ -10,6 +10,12 @@ use xsk_io::Stream;
 use xsk_pcap::BadCapture;
 use xsk_pcapng::BadPcapng;
 
+/// What to do where a run stalls.
+const STALLED: &str = "\
+xsk: nothing changed for 64 rounds, and some worker hadn't ended: a packet waits for frames or for room
+xsk: raise --frames, --rx or --comp, or say --wire drop
+";
+
 /// What is told of a status. It is nothing, where its line says all.
 pub(crate) fn fault_text<R: Files>(
     rt: &R,
@@ -18,45 +24,44 @@ pub(crate) fn fault_text<R: Files>(
     status: &Status,
 ) -> Result<String, AllocError> {
     let mut text = String::new(alloc);
+    push_fault(rt, alloc, &mut text, words, status)?;
+    Ok(text)
+}
+
+fn push_fault<R: Files>(
+    rt: &R,
+    alloc: Global,
+    text: &mut String,
+    words: &[String],
+    status: &Status,
+) -> Result<(), AllocError> {
     match status {
         Status::BadCapture { port, cause } => {
             let name = name_of(alloc, words, Stream::Input(*port)).unwrap_or("an input");
-            let hint = match cause {
-                BadCapture::BadMagic => hint(rt, name),
-                _ => "",
-            };
-            writeln!(text, "xsk: {name}: {cause}{hint}")?;
+            let hint = hint_of(rt, name, *cause == BadCapture::BadMagic);
+            writeln!(text, "xsk: {name}: {cause}{hint}")
         }
         Status::BadPcapng(cause) => {
             let name = name_of(alloc, words, Stream::Input(0)).unwrap_or("the input");
-            let hint = match cause {
-                BadPcapng::BadMagic => hint(rt, name),
-                _ => "",
-            };
-            writeln!(text, "xsk: {name}: {cause}{hint}")?;
+            let hint = hint_of(rt, name, *cause == BadPcapng::BadMagic);
+            writeln!(text, "xsk: {name}: {cause}{hint}")
         }
         Status::ReadFault { port } => {
-            push_stream(alloc, &mut text, words, Stream::Input(*port), "read")?;
+            push_stream(alloc, text, words, Stream::Input(*port), "read")
         }
-        Status::WriteFault { stream } => {
-            push_stream(alloc, &mut text, words, *stream, "written")?;
-        }
-        Status::OpenFault { stream } => {
-            push_stream(alloc, &mut text, words, *stream, "opened")?;
-        }
+        Status::WriteFault { stream } => push_stream(alloc, text, words, *stream, "written"),
+        Status::OpenFault { stream } => push_stream(alloc, text, words, *stream, "opened"),
         Status::Refused(unlawful) => {
-            writeln!(text, "xsk: {unlawful}; xsk --help tells what is accepted")?;
+            writeln!(text, "xsk: {unlawful}\nxsk --help tells what is accepted")
         }
-        Status::Stalled { round } => {
-            writeln!(
-                text,
-                "xsk: the run stalled: nothing changed in 64 rounds up to round {round}, and some worker hadn't ended. A packet \
-                            waits for frames or for room: raise --frames, --rx or --comp, or say --wire drop"
-            )?;
-        }
-        _ => {}
+        Status::Stalled { .. } => text.push_str(STALLED),
+        _ => Ok(()),
     }
-    Ok(text)
+}
+
+/// What a file is, where it hasn't the magic number of its format.
+fn hint_of<R: Files>(rt: &R, name: &str, has_other_magic: bool) -> &'static str {
+    if has_other_magic { hint(rt, name) } else { "" }
 }
 
 /// Which stream couldn't be opened, read or written.
