@@ -131,6 +131,7 @@ impl<'a> Bench<'a> {
     /// the log are as they were. Why it isn't legal is told: the first of its conditions that fails. An application that doesn't
     /// exist may make no call.
     pub fn serve(&mut self, app: u32, ask: Ask, items: &mut Batch) -> Result<Answer, Unserved>
+        ensures room { self.new.room ≡ self.old.room }
         ensures stray { (result ≡ Err Unserved.StrayItems) ↔ (HasAsked ask items.old → ⊥) }
         ensures illegal { IsIllegal result
             ↔ (HasAsked ask items.old × (IsLegal self.old.checked.config (own (caller_of self.old.checked.config app) self.old.checked.log) (caller_of self.old.checked.config app) (joined_call ask items.old) → ⊥)) }
@@ -146,7 +147,8 @@ impl<'a> Bench<'a> {
     /// neither the object nor the number of a driver's packets that have their disposals. Where memory for the log can't be had,
     /// no call is made.
     pub fn round(&mut self) -> Result<bool, OutOfMemory>
-        ensures { (s : Setting) (frames : List Frame) (h : List Entry) → HasPlayed s frames h self.old → HadRound s frames h self.new result }
+        ensures room { self.new.room ≡ self.old.room }
+        ensures round { (s : Setting) (frames : List Frame) (h : List Entry) → HasPlayed s frames h self.old → HadRound s frames h self.new result }
     {
         self.play.round()
     }
@@ -155,7 +157,8 @@ impl<'a> Bench<'a> {
     /// for 64 rounds. Then each has ended, or is parked, or nothing that it looks at lets it go on before an application makes
     /// a call. Where memory for the log can't be had, the rounds so far were made.
     pub fn run_drivers(&mut self, most_rounds: u32) -> Result<bool, OutOfMemory>
-        ensures { (s : Setting) (frames : List Frame) (h : List Entry) → HasPlayed s frames h self.old → HadRounds s frames h most_rounds self.new result }
+        ensures room { self.new.room ≡ self.old.room }
+        ensures rounds { (s : Setting) (frames : List Frame) (h : List Entry) → HasPlayed s frames h self.old → HadRounds s frames h most_rounds self.new result }
     {
         self.play.run(most_rounds)
     }

@@ -78,6 +78,7 @@ impl Play<'_> {
     /// Makes rounds until nothing has changed for 64 of them, but no more than so many, and tells whether the drivers wait.
     pub(crate) fn run(&mut self, most_rounds: u32) -> Result<bool, OutOfMemory>
         requires going { IsGoing self.old }
+        ensures room { self.new.room ≡ self.old.room }
         ensures rounds { (s : Setting) (frames : List Frame) (h : List Entry) → HasPlayed s frames h self.old → HadRounds s frames h most_rounds self.new result }
     {
         let mut still = 0;
@@ -97,6 +98,7 @@ impl Play<'_> {
     /// log has room for all of them before the first.
     pub(crate) fn round(&mut self) -> Result<bool, OutOfMemory>
         requires going { IsGoing self.old }
+        ensures room { self.new.room ≡ self.old.room }
         ensures round { (s : Setting) (frames : List Frame) (h : List Entry) → HasPlayed s frames h self.old → HadRound s frames h self.new result }
     {
         let count = self.seats.len() as u32;
@@ -119,6 +121,7 @@ impl Play<'_> {
         requires who { who < vec_len self.old.seats }
         requires entries { 1 ≤ self.old.checked.spare_entries }
         requires bytes { most_payload ≤ self.old.checked.spare_bytes }
+        ensures room { self.new.room ≡ self.old.room }
         ensures config { self.new.checked.config ≡ self.old.checked.config }
         ensures entries { self.old.checked.spare_entries ≤ self.new.checked.spare_entries + 1 }
         ensures bytes { self.old.checked.spare_bytes ≤ self.new.checked.spare_bytes + most_payload }

@@ -117,7 +117,7 @@ module _ (manner : Manner) (wire : Wire) (c : Config) (lists : List PacketList) 
       (subst (AreFront (rx_of c a lane)) (lane_tx c p q k (paired_port p) place.in_queues place.in_classes pair.here)
       ((fronts manner c a one mine (run.apps a one.known)).fronts lane (lane_below c (paired_port p) k place.in_classes)))
 
-  came_first : (pending : List Item) × lanes.Follows c.geometry manner.mangle out pending came
+  pub came_first : (pending : List Item) × lanes.Follows c.geometry manner.mangle out pending came
   came_first = (first.0, subst (lanes.Follows c.geometry manner.mangle out first.0) (joined.received_all workers 1 manner wire c lists verdicts frames h p q k run place) first.1)
 
   pub sent_fewer_by_one : (f : List ℕ → ℕ) → IsMeasured f → total f (sent_by c h (driver_on c p q) t) ≤ total f (forwarded wire c h lists verdicts p q k)

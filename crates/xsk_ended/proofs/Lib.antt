@@ -4,3 +4,5 @@ pub mod Ended
 pub mod Within
 pub mod Until
 pub mod Shown
+pub mod Cutting
+pub mod Unstranded

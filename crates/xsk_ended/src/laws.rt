@@ -1,6 +1,6 @@
 //! The laws, each the contract of a function that does nothing. They are stated in `specs/Laws.antt` and `specs/Until.antt`.
 
-ghost use Rattle.xsk_ended.specs.Laws.{EndedIsWithin, EndedLeavesWithin, EndedBouncedAsSaid, EndedLoseNoWakes};
+ghost use Rattle.xsk_ended.specs.Laws.{EndedIsWithin, EndedLeavesWithin, EndedBouncedAsSaid, EndedStrandNone, EndedLoseNoWakes};
 ghost use Rattle.xsk_ended.specs.Until.{EndedAreForwarded, EndedAreExpected, AllAreForwarded, AllAreExpected};
 
 /// All that the drivers of two paired ports sent on a queue is no more than what both ports received there, in packets and in bytes,
@@ -40,6 +40,12 @@ pub fn all_are_forwarded()
 /// And so is what is expected.
 pub fn all_are_expected()
     ensures { AllAreExpected }
+{}
+
+/// Where no item is changed no frame is stranded, whatever socket is closed: each that a driver peeked on its TX rings it has given to
+/// COMPLETION.
+pub fn ended_strand_none()
+    ensures { EndedStrandNone }
 {}
 
 /// No wake is lost.

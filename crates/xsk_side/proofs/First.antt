@@ -1,10 +1,9 @@
 -- The first of possible calls are possible: a history is cut right before the program's next call.
-use Rattle.std.proofs.Common.{◌≡◌, List, [], ◌∷◌, ◌++◌, cond, true, false, refl}
+use Rattle.std.proofs.Common.{◌≡◌, List, [], ◌∷◌, ◌++◌, cond}
 use Rattle.xsk_side.specs.Setting.{Setting}
 use Rattle.xsk_side.specs.Object.{Entry}
 use Rattle.xsk_side.specs.Possible.{IsHistory, Possible, own, is_party}
 use Rattle.xsk_side.specs.Laws.{FirstParts}
-use Rattle.xsk_side.specs.declared.call.Party.{Party}
 use Rattle.xsk_side.specs.declared.call.Party.TheVariants.{Program, Kernel}
 use Rattle.xsk_side.specs.declared.call.Call.{Call}
 

@@ -1,9 +1,8 @@
 -- One holder: a frame is with the program, with the kernel, or in one ring, once; and the entries whose frame wasn't submitted since
 -- they were peeked name frames of the program, each once.
-use Rattle.std.proofs.Common.{◌≡◌, ℕ, zero, suc, ◌+◌, ◌-◌, ◌<◌, ◌≤◌, ◌⊎◌, Bool, true, false, ◌&&◌, not, ◌==◌, cond, eqb, Option, Some, None, List, [], ◌∷◌, ◌++◌, length, take, drop, map, refl, sym, ap, ◌∙◌, subst, arith, ⊎_elim, inl, inr, eqb-true, eq-eqb, ne_eqb}
+use Rattle.std.proofs.Common.{◌≡◌, ℕ, zero, suc, ◌+◌, ◌-◌, ◌≤◌, ◌⊎◌, Bool, true, false, ◌&&◌, not, ◌==◌, cond, Some, None, List, [], ◌∷◌, ◌++◌, take, drop, map, refl, sym, ap, ◌∙◌, subst, arith, ⊎_elim, inl, inr, ne_eqb}
 use Rattle.std.specs.Prelude.{nat_lt, is_some, IsTrue, All}
 use Rattle.std.proofs.lemmas.Bool.{cases_eq}
-use Rattle.std.proofs.lemmas.Bool.Decides.{nat_tests}
 use Rattle.std.proofs.lemmas.List.Elements.{All-head, All-tail}
 use Rattle.std.proofs.lemmas.List.{take-append-drop}
 use Rattle.xsk_umem.specs.declared.batch.XdpDesc.{XdpDesc}
@@ -11,18 +10,18 @@ use Rattle.xsk_model.specs.declared.call.Ring.{Ring}
 use Rattle.xsk_model.specs.declared.call.Ring.TheVariants.{Fill, Comp, Rx, Tx}
 use Rattle.xsk_model.specs.Descriptor.{is_inside}
 use Rattle.xsk_model.specs.Rings.{is_ring}
-use Rattle.xsk_model.proofs.Places.{is_ring-self, is_ring-true}
+use Rattle.xsk_model.proofs.Places.{is_ring-self}
 use Rattle.xsk_side.specs.Setting.{Setting, size_of}
-use Rattle.xsk_side.specs.Entries.{names, frame, times, stands, last, but_last}
-use Rattle.xsk_side.specs.Object.{Entry, RingState, ring_of, ring_at, ring_after, producer, consumer, is_made, Replies}
-use Rattle.xsk_side.specs.Own.{Held, fresh, entry_of, touch, held_of, held_after, put_back, has_frame, has_after, source_of, source_after}
+use Rattle.xsk_side.specs.Entries.{names, frame, times, last, but_last}
+use Rattle.xsk_side.specs.Object.{Entry, RingState, ring_of, ring_at, ring_after, consumer, is_made, Replies}
+use Rattle.xsk_side.specs.Own.{Held, fresh, entry_of, touch, held_of, held_after, put_back, has_frame, source_of}
 use Rattle.xsk_side.specs.Legal.{IsLegal, HasRole}
 use Rattle.xsk_side.specs.Possible.{IsHistory, own}
 use Rattle.xsk_side.specs.declared.call.Party.{Party}
 use Rattle.xsk_side.specs.declared.call.Party.TheVariants.{Program, Kernel}
 use Rattle.xsk_side.specs.declared.call.Call.{Call}
 use Rattle.xsk_side.specs.declared.call.Call.TheVariants.{Reserve, Free, Submit, Peek, Release, Cancel}
-use Rattle.xsk_side.proofs.Lists.{number, times-append, times-split, times-front, last-and_before, last-map, gone, come, some-cond}
+use Rattle.xsk_side.proofs.Lists.{number, times-append, times-front, last-and_before, last-map, gone, come, some-cond}
 use Rattle.xsk_side.proofs.Rings.{entry, same_or, ring_here, ring_else, either, is_false, IsRingSound, rings_sound}
 
 -- ---- a frame that moves between a party and one ring

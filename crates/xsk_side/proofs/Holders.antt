@@ -1,5 +1,5 @@
 -- After each history each frame has one holder.
-use Rattle.std.proofs.Common.{◌≡◌, ℕ, zero, suc, ◌+◌, ◌≤◌, ◌⊎◌, Bool, true, false, cond, List, refl, sym, ap, arith, ⊎_elim}
+use Rattle.std.proofs.Common.{◌≡◌, ℕ, ◌+◌, ◌≤◌, false, List, refl, ap, arith, ⊎_elim}
 use Rattle.std.specs.Prelude.{is_some}
 use Rattle.xsk_model.specs.declared.call.Ring.{Ring}
 use Rattle.xsk_model.specs.declared.call.Ring.TheVariants.{Fill}
@@ -8,13 +8,12 @@ use Rattle.xsk_side.specs.Setting.{Setting}
 use Rattle.xsk_side.specs.Entries.{times}
 use Rattle.xsk_side.specs.Object.{Entry, ring_at}
 use Rattle.xsk_side.specs.Own.{has_frame, source_of}
-use Rattle.xsk_side.specs.Possible.{IsHistory, own}
+use Rattle.xsk_side.specs.Possible.{own}
 use Rattle.xsk_side.specs.Laws.{Holder, By, In, held_by, HasOneHolder, OneHolder}
-use Rattle.xsk_side.specs.declared.call.Party.{Party}
 use Rattle.xsk_side.specs.declared.call.Party.TheVariants.{Program, Kernel}
 use Rattle.xsk_side.proofs.Lists.{number}
 use Rattle.xsk_side.proofs.Rings.{same_or}
-use Rattle.xsk_side.proofs.Frames.{IsAlone, IsFrameSound, frames_sound, positive, other_way}
+use Rattle.xsk_side.proofs.Frames.{IsFrameSound, frames_sound, positive}
 
 few : (s : Setting) (h : List Entry) (f : ℕ) → IsFrameSound s h f → (x : Holder) → held_by s h f x ≤ 1
 few s h f sound (By Program) = omega (arith, sound.place.alone (Fill 0))

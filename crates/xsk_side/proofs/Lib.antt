@@ -4,3 +4,9 @@ pub mod Lists
 pub mod Rings
 pub mod Frames
 pub mod Holders
+pub mod Bounds
+pub mod Given
+pub mod Strays
+pub mod Fits
+pub mod Late
+pub mod Local

@@ -1,6 +1,6 @@
 -- The rings of a history: room and held entries are those that the producer's and the consumer's own calls leave, and all fits the size.
-use Rattle.std.proofs.Common.{◌≡◌, ℕ, ◌+◌, ◌-◌, ◌≤◌, ◌⊎◌, Bool, true, false, cond, List, [], ◌∷◌, ◌++◌, length, take, drop, map, refl, sym, ap, ◌∙◌, subst, arith, length-append, length-drop, ⊎_elim, inl, inr}
-use Rattle.std.proofs.lemmas.List.{length-map, map-append, length-take}
+use Rattle.std.proofs.Common.{◌≡◌, ℕ, ◌+◌, ◌-◌, ◌≤◌, ◌⊎◌, Bool, true, false, cond, List, [], ◌∷◌, ◌++◌, length, drop, map, refl, sym, ap, ◌∙◌, subst, arith, length-append, length-drop, ⊎_elim, inl, inr}
+use Rattle.std.proofs.lemmas.List.{map-append}
 use Rattle.std.proofs.lemmas.Bool.{cases_Bool}
 use Rattle.xsk_umem.specs.declared.batch.XdpDesc.{XdpDesc}
 use Rattle.xsk_model.specs.declared.call.Ring.{Ring}
@@ -9,13 +9,12 @@ use Rattle.xsk_model.specs.Rings.{is_ring}
 use Rattle.xsk_model.proofs.Places.{is_ring-self, is_ring-true}
 use Rattle.xsk_side.specs.Setting.{Setting, size_of}
 use Rattle.xsk_side.specs.Entries.{last, but_last}
-use Rattle.xsk_side.specs.Object.{Entry, RingState, ring_of, ring_at, ring_after, producer, consumer, is_made, granted, free, Answers, Replies}
+use Rattle.xsk_side.specs.Object.{Entry, RingState, ring_of, ring_at, ring_after, producer, consumer, is_made, granted, Replies}
 use Rattle.xsk_side.specs.Own.{Held, fresh, entry_of, touch, room_of, room_after, held_of, held_after}
 use Rattle.xsk_side.specs.Legal.{IsLegal, HasRole, IsCounted}
 use Rattle.xsk_side.specs.Possible.{IsHistory, own, is_party}
 use Rattle.xsk_side.specs.declared.call.Party.{Party}
 use Rattle.xsk_side.specs.declared.call.Party.TheVariants.{Program, Kernel}
-use Rattle.xsk_side.specs.declared.call.Answer.{Answer}
 use Rattle.xsk_side.specs.declared.call.Answer.TheVariants.{Granted, Full, Refused}
 use Rattle.xsk_side.specs.declared.call.Call.{Call}
 use Rattle.xsk_side.specs.declared.call.Call.TheVariants.{Reserve, Free, Submit, Peek, Release, Cancel}
@@ -232,7 +231,7 @@ fits_here ring size (Cancel (Comp d) n) within reply has = back_fits ring n size
 fits_here ring size (Cancel (Rx k) n) within reply has = back_fits ring n size within
 fits_here ring size (Cancel (Tx k) n) within reply has = omega (arith, within)
 
-has_room : (s : Setting) (past : List Entry) (who : Party) (call : Call) → HasRole who call → IsCounted s (own who past) call
+pub has_room : (s : Setting) (past : List Entry) (who : Party) (call : Call) → HasRole who call → IsCounted s (own who past) call
     → (ring_at (ring_of call) past).room ≡ room_of (ring_of call) (own (producer (ring_of call)) past) → HasRoom (ring_at (ring_of call) past) call
 has_room s past who (Reserve r n answer) role counted is = tt
 has_room s past who (Free r n places) role counted is = tt

@@ -1,16 +1,16 @@
 -- Where a kernel is bound less, all that was possible still is: the same history stands.
-use Rattle.std.proofs.Common.{◌≡◌, ℕ, Bool, true, false, ◌&&◌, ◌||◌, not, ◌==◌, nat_lt, Option, List, [], ◌∷◌, refl, IsTrue, arith}
+use Rattle.std.proofs.Common.{ℕ, Bool, ◌&&◌, ◌||◌, not, ◌==◌, Option, List, [], ◌∷◌, IsTrue, arith}
 use Rattle.std.specs.List.{slice_index_or}
 use Rattle.xsk_umem.specs.declared.batch.XdpDesc.{XdpDesc}
 use Rattle.xsk_model.specs.declared.call.Ring.{Ring}
 use Rattle.xsk_model.specs.declared.call.Ring.TheVariants.{Fill, Comp, Rx, Tx}
 use Rattle.xsk_model.specs.Descriptor.{is_inside, has_bytes, fits_chunk}
 use Rattle.xsk_side.specs.Setting.{Setting, HasRing, pair_of}
-use Rattle.xsk_side.specs.Entries.{is_received, is_laid}
+use Rattle.xsk_side.specs.Entries.{is_laid}
 use Rattle.xsk_side.specs.Object.{Entry, ring_of}
 use Rattle.xsk_side.specs.Own.{source_of, strays_taken}
 use Rattle.xsk_side.specs.Legal.{IsReceived, MayCome, IsPut, IsLegal}
-use Rattle.xsk_side.specs.Possible.{IsHistory, Possible, own}
+use Rattle.xsk_side.specs.Possible.{IsHistory, own}
 use Rattle.xsk_side.specs.Laws.{IsWider, WiderKernels}
 use Rattle.xsk_side.specs.declared.setting.Rules.{Rules}
 use Rattle.xsk_side.specs.declared.call.Party.{Party}
@@ -69,15 +69,7 @@ legal_still s wider who mine call is h = record {
 }
 
 history_still : (s : Setting) (wider : Rules) (h : List Entry) → IsWider s.rules wider → IsHistory s h → IsHistory (bound_less s wider) h
-history_still s wider [] is h = record {
-  umem = h.umem;
-  some_pairs = h.some_pairs;
-  few_pairs = h.few_pairs;
-  some_sockets = h.some_sockets;
-  few_sockets = h.few_sockets;
-  pairs = h.pairs;
-  sockets = h.sockets;
-}
+history_still s wider [] is h = record { umem = h.umem; pairs = h.pairs; sockets = h.sockets }
 history_still s wider (e ∷ past) is h =
     (history_still s wider past is h.0, legal_still s wider e.who (own e.who past) e.call is h.1, h.2)
 

@@ -1,5 +1,5 @@
 -- The laws of what is possible. Lists have the latest call first.
-use Rattle.std.specs.Prelude.{◌≡◌, ◌↔◌, ℕ, ◌≤◌, Bool, true, IsTrue, if◌then◌else◌, List, ◌++◌}
+use Rattle.std.specs.Prelude.{◌≡◌, ◌↔◌, ℕ, ◌≤◌, IsTrue, if◌then◌else◌, List, ◌++◌}
 use Rattle.xsk_model.specs.declared.call.Ring.{Ring}
 use Rattle.xsk_side.specs.Setting.{Setting}
 use Rattle.xsk_side.specs.Entries.{times}

@@ -1,7 +1,7 @@
 -- Which call a party may make, by the setting and by its own earlier calls and their replies alone (af_xdp.rst, "Rings" and "UMEM").
 -- What a kernel may put into RX and COMPLETION is this project's reading of Linux: later kernels redirect to any socket of the UMEM,
 -- drop packets, and complete in any order, so no order is asked for.
-use Rattle.std.specs.Prelude.{◌≡◌, ℕ, ◌≤◌, Bool, true, IsTrue, if◌then◌else◌, Option, Some, List, length, All}
+use Rattle.std.specs.Prelude.{◌≡◌, ℕ, ◌≤◌, IsTrue, if◌then◌else◌, Option, Some, List, length, All}
 use Rattle.xsk_umem.specs.declared.batch.XdpDesc.{XdpDesc}
 use Rattle.xsk_model.specs.Descriptor.{is_inside}
 use Rattle.xsk_model.specs.declared.call.Ring.{Ring}
@@ -11,7 +11,7 @@ use Rattle.xsk_side.specs.Entries.{frame, times, strays_in, is_received, last}
 use Rattle.xsk_side.specs.Object.{is_made, producer, consumer, ring_of}
 use Rattle.xsk_side.specs.Own.{Held, room_of, held_of, source_of, has, strays_taken}
 use Rattle.xsk_side.specs.declared.call.Party.{Party}
-use Rattle.xsk_side.specs.declared.call.Party.TheVariants.{Program, Kernel}
+use Rattle.xsk_side.specs.declared.call.Party.TheVariants.{Program}
 use Rattle.xsk_side.specs.declared.call.Call.{Call}
 use Rattle.xsk_side.specs.declared.call.Call.TheVariants.{Reserve, Free, Submit, Peek, Release, Cancel}
 

@@ -1,16 +1,15 @@
 -- The same without kernels: what the program's calls and replies tell of the kernel's side, and which call fits after them. Lists
 -- have the latest call first.
-use Rattle.std.specs.Prelude.{◌≡◌, ℕ, ◌+◌, ◌-◌, ◌<◌, ◌≤◌, ◌⊎◌, max, Bool, if◌then◌else◌, Option, Some, None, List, [], ◌∷◌, ◌++◌, length, take, drop}
+use Rattle.std.specs.Prelude.{◌≡◌, ℕ, ◌+◌, ◌-◌, ◌<◌, ◌≤◌, ◌⊎◌, max, if◌then◌else◌, Option, Some, None, List, [], ◌∷◌, ◌++◌, length, take, drop}
 use Rattle.xsk_umem.specs.declared.batch.XdpDesc.{XdpDesc}
 use Rattle.xsk_model.specs.Rings.{is_ring}
 use Rattle.xsk_model.specs.declared.call.Ring.{Ring}
-use Rattle.xsk_model.specs.declared.call.Ring.TheVariants.{Fill, Comp, Rx, Tx}
+use Rattle.xsk_model.specs.declared.call.Ring.TheVariants.{Comp}
 use Rattle.xsk_side.specs.Setting.{Setting, IsSetting, size_of, pair_of}
-use Rattle.xsk_side.specs.Entries.{times, stands, strays_in, last}
-use Rattle.xsk_side.specs.Object.{is_made, ring_of}
+use Rattle.xsk_side.specs.Entries.{times, stands, strays_in}
+use Rattle.xsk_side.specs.Object.{ring_of}
 use Rattle.xsk_side.specs.Own.{room_of, held_of, put_back, is_tx_of}
 use Rattle.xsk_side.specs.Legal.{IsLegal, MayCome}
-use Rattle.xsk_side.specs.declared.call.Party.{Party}
 use Rattle.xsk_side.specs.declared.call.Party.TheVariants.{Program}
 use Rattle.xsk_side.specs.declared.call.Answer.{Answer}
 use Rattle.xsk_side.specs.declared.call.Answer.TheVariants.{Granted, Full, Refused}

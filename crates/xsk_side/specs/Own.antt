@@ -1,6 +1,6 @@
 -- What a party's own calls leave: the room and the held entries of its rings, its frames, and, of the kernel, from which ring it took
 -- each. Lists of calls have the latest first.
-use Rattle.std.specs.Prelude.{ℕ, ◌+◌, ◌-◌, Bool, true, false, ◌&&◌, ◌||◌, not, ◌==◌, if◌then◌else◌, Option, Some, None, is_some, List, [], ◌∷◌, ◌++◌, length, take, drop, map}
+use Rattle.std.specs.Prelude.{ℕ, ◌+◌, ◌-◌, Bool, true, false, ◌&&◌, not, ◌==◌, if◌then◌else◌, Option, Some, None, is_some, List, [], ◌∷◌, ◌++◌, length, drop, map}
 use Rattle.xsk_umem.specs.declared.batch.XdpDesc.{XdpDesc}
 use Rattle.xsk_model.specs.Descriptor.{is_inside}
 use Rattle.xsk_model.specs.Rings.{is_ring}

@@ -1,7 +1,8 @@
 -- The setting of a recording: one UMEM in aligned mode, and the rings of its sockets (af_xdp.rst, "Concepts", "UMEM" and
 -- "XDP_SHARED_UMEM bind flag"). The limits of the sizes are this project's own.
-use Rattle.std.specs.Prelude.{◌≡◌, ℕ, suc, ◌+◌, ◌^◌, ◌<◌, ◌≤◌, ◌⊎◌, List, length, All, Option, Some, None, IsSome, IfSome, unwrap_or}
+use Rattle.std.specs.Prelude.{ℕ, ◌+◌, ◌^◌, ◌<◌, ◌≤◌, ◌⊎◌, IsTrue, List, length, All, None, IsSome, IfSome, unwrap_or}
 use Rattle.std.specs.List.{slice_index_or}
+use Rattle.std.specs.Int.{is_power_of_two}
 use Rattle.xsk_umem.specs.Geometry.{Geometry}
 use Rattle.xsk_umem.specs.Limits.{reserved_bytes}
 use Rattle.xsk_model.specs.declared.call.Ring.{Ring}
@@ -47,16 +48,20 @@ pair_of s (Tx k) = (socket_at s k).pair
 
 -- ---- what is a setting
 
+abbrev pub AreFrames : ℕ → Type 0
+AreFrames frames = (1 ≤ frames) × (frames ≤ 2 ^ 20)
+
+abbrev pub IsChunk : ℕ → ℕ → Type 0
+IsChunk chunk headroom = headroom + reserved_bytes < chunk
+
 -- any chunk with a byte behind the headroom and the reserved bytes
 pub record IsUmem (g : Geometry) : Type 0 where
-  pub some : 1 ≤ g.frames
-  pub few : g.frames ≤ 2 ^ 20
-  pub chunk : g.chunk < 2 ^ 32
-  pub payload : g.headroom + reserved_bytes < g.chunk
+  pub frames : AreFrames g.frames
+  pub chunk : IsChunk g.chunk g.headroom
 
 -- a ring's size: a power of two (af_xdp.rst, "Rings") from 1 to 2^20
 pub record IsRingSize (size : ℕ) : Type 0 where
-  pub power : (k : ℕ) × (size ≡ 2 ^ k)
+  pub power : IsTrue (is_power_of_two size)
   pub most : size ≤ 2 ^ 20
 
 pub record IsPair (pair : Pair) : Type 0 where
@@ -70,11 +75,13 @@ pub record IsSocket (pairs : List Pair) (socket : Socket) : Type 0 where
   pub rx : IfSome socket.rx IsRingSize
   pub tx : IfSome socket.tx IsRingSize
 
+abbrev pub ArePairs : List Pair → Type 0
+ArePairs pairs = (1 ≤ length pairs) × (length pairs ≤ 64) × All IsPair pairs
+
+abbrev pub AreSockets : List Pair → List Socket → Type 0
+AreSockets pairs sockets = (1 ≤ length sockets) × (length sockets ≤ 64) × All (IsSocket pairs) sockets
+
 pub record IsSetting (s : Setting) : Type 0 where
   pub umem : IsUmem s.geometry
-  pub some_pairs : 1 ≤ length s.pairs
-  pub few_pairs : length s.pairs ≤ 64
-  pub some_sockets : 1 ≤ length s.sockets
-  pub few_sockets : length s.sockets ≤ 64
-  pub pairs : All IsPair s.pairs
-  pub sockets : All (IsSocket s.pairs) s.sockets
+  pub pairs : ArePairs s.pairs
+  pub sockets : AreSockets s.pairs s.sockets

@@ -9,4 +9,4 @@ mod setting;
 
 pub use call::{Answer, Call, Party};
 pub use entries::Entries;
-pub use setting::{Pair, Rules, Setting, Socket};
+pub use setting::{Pair, Rules, Setting, SettingError, Socket};

@@ -10,6 +10,7 @@ use Rattle.xsk_bench.proofs.play.Play.round.Goals as goal
 pub loop-who-init : goal.loop-who-init
 loop-who-init c = record {
   geometry = search rules;
+  room = refl;
   seats = search rules;
   entries = omega (arith, c.in-Ok.ensures.entries);
   bytes = omega (arith, c.in-Ok.ensures.bytes);
@@ -21,6 +22,7 @@ loop-who-preserved c =
     let l = c.loop-who in
     record {
       geometry = subst (λ (k : Config). IsGeometry k.geometry) (sym c.step-still.ensures.config) l.invariant.geometry;
+      room = c.step-still.ensures.room ∙ l.invariant.room;
       seats = c.step-still.ensures.seats ∙ l.invariant.seats;
       entries = omega (arith, c.step-still.ensures.entries, l.invariant.entries);
       bytes = omega (arith, c.step-still.ensures.bytes, l.invariant.bytes);
@@ -36,6 +38,7 @@ step-still-requires-clause-going c =
 
 pub returns : goal.returns
 returns c = record {
+  room = c.loop-who.invariant.room;
   round = λ s frames h played.
       let l = c.loop-who in
       let all : l.who ≡ length s.config.pairs = search (rules, played.count) in

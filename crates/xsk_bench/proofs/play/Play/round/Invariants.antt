@@ -12,6 +12,7 @@ use Rattle.xsk_bench.proofs.play.Play.round.Given as goal
 abbrev pub invariant-loop-who : goal.invariant-loop-who
 invariant-loop-who l = record {
   geometry : IsGeometry l.self.checked.config.geometry;
+  room : l.self.room ≡ l.fn.self.room;
   seats : vec_len l.self.seats ≡ l.count;
   entries : l.count ≤ l.who + l.self.checked.spare_entries;
   bytes : l.count * most_payload ≤ l.who * most_payload + l.self.checked.spare_bytes;

@@ -1,9 +1,9 @@
-use Rattle.std.proofs.Common.{◌++◌, ◌+◌, arith}
+use Rattle.std.proofs.Common.{◌++◌, ◌+◌, ◌∙◌, arith, refl}
 use Rattle.xsk_bench.proofs.Rounds.{few_still, gone_none, gone_more, gone_going, ends_still}
 use Rattle.xsk_bench.proofs.play.Play.run.Goals as goal
 
 pub loop-round-init : goal.loop-round-init
-loop-round-init c = record { few = omega arith; gone = λ s frames h played. gone_none s frames h c.args.self.now played }
+loop-round-init c = record { room = refl; few = omega arith; gone = λ s frames h played. gone_none s frames h c.args.self.now played }
 
 pub round-requires : goal.round-requires
 round-requires c =
@@ -14,6 +14,7 @@ pub loop-round-preserved : goal.loop-round-preserved
 loop-round-preserved c =
     let l = c.loop-round in
     record {
+      room = c.round.ensures.room ∙ l.invariant.room;
       few = omega (arith, l.invariant.few, few_still c.in-Ok.quiet l.still c.still_after-still.result l.invariant.few c.still_after-still.ensures.more c.still_after-still.ensures.none, c.if-still-eq-STILL_ROUNDS.false);
       gone = λ s frames h played.
           let gone = l.invariant.gone s frames h played in
@@ -23,6 +24,7 @@ loop-round-preserved c =
 
 pub returns-then-still-eq-STILL_ROUNDS : goal.returns-then-still-eq-STILL_ROUNDS
 returns-then-still-eq-STILL_ROUNDS c = record {
+  room = c.round.ensures.room ∙ c.loop-round.invariant.room;
   rounds = λ s frames h played.
       let l = c.loop-round in
       let gone = l.invariant.gone s frames h played in
