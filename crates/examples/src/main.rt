@@ -30,5 +30,6 @@ fn main(rt: HostRuntime) -> Result<()> {
     forwarder::forward_by_hand(&rt, alloc, true)?;
     forwarder::forward_by_hand(&rt, alloc, false)?;
     reports::report_a_run(&rt, alloc)?;
+    reports::report_the_largest(&rt, alloc)?;
     journals::audit_a_journal(&rt, alloc)
 }

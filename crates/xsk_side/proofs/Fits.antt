@@ -11,7 +11,7 @@ use Rattle.xsk_side.specs.Object.{Entry, ring_of, ring_at, producer, consumer, i
 use Rattle.xsk_side.specs.Own.{room_of, held_of, entry_of}
 use Rattle.xsk_side.specs.Legal.{IsLegal, IsReceived, IsCompleted, MayCome}
 use Rattle.xsk_side.specs.Possible.{IsHistory, Possible, own}
-use Rattle.xsk_side.specs.Local.{back_of, given_of, strays_given, FitsEntries, FitsReply, AllFit}
+use Rattle.xsk_side.specs.Local.{back_of, given_of, strays_given, FitsReply, AllFit}
 use Rattle.xsk_side.specs.declared.call.Party.{Party}
 use Rattle.xsk_side.specs.declared.call.Party.TheVariants.{Program, Kernel}
 use Rattle.xsk_side.specs.declared.call.Answer.TheVariants.{Granted, Full, Refused}
@@ -73,7 +73,7 @@ few_strays s past r d legal is =
     subst (λ x. strays_in s (behind s past x) ≤ strays_given s (pair_of s x) (own Program past)) (sym is) (omega (arith, strays_sound s d past legal))
 
 fits_entries : (s : Setting) (past : List Entry) (r : Ring) (n : ℕ) (es : List XdpDesc) → IsHistory s past → Program ≡ consumer r
-    → Replies (size_of s r) (ring_at r past) (Peek r n es) → FitsEntries s (own Program past) r n es
+    → Replies (size_of s r) (ring_at r past) (Peek r n es) → FitsReply s (own Program past) (Peek r n es)
 fits_entries s past r n es legal role reply =
     let mine = own Program past in let back = back_of s r mine in let out = (ring_at r past).out in
     let rest = (given_sound s past legal).rest r (shown_to r role) in

@@ -17,7 +17,7 @@ use Rattle.xsk_side.specs.Object.{Entry, RingState, ring_of, ring_at, ring_after
 use Rattle.xsk_side.specs.Own.{room_of, held_of, entry_of, put_back, has_frame, source_of, is_tx_of, strays_taken}
 use Rattle.xsk_side.specs.Legal.{IsLegal, IsReceived, IsCompleted, MayCome}
 use Rattle.xsk_side.specs.Possible.{IsHistory, Possible, own}
-use Rattle.xsk_side.specs.Local.{sure_of, sure_after, back_of, back_after, given_of, strays_given, new_of, FitsEntries, Fits, AllFit}
+use Rattle.xsk_side.specs.Local.{sure_of, sure_after, back_of, back_after, given_of, strays_given, new_of, FitsReply, Fits, AllFit}
 use Rattle.xsk_side.specs.declared.call.Party.TheVariants.{Program, Kernel}
 use Rattle.xsk_side.specs.declared.call.Answer.{Answer}
 use Rattle.xsk_side.specs.declared.call.Answer.TheVariants.{Granted, Full, Refused}
@@ -351,12 +351,12 @@ came_from s from strays (Rx k) es f made h some = filled_by es h some
         (positive (number (names s f e)) (times s f es) some)
 
 peek_step : (s : Setting) (h : List Entry) (r : Ring) (n : ℕ) (es : List XdpDesc) → IsLate s h → IsLegal s Program (own Program h) (Peek r n es)
-    → FitsEntries s (own Program h) r n es → (h' : List Entry) × IsStep s h h' (Peek r n es)
+    → FitsReply s (own Program h) (Peek r n es) → (h' : List Entry) × IsStep s h h' (Peek r n es)
 peek_step s h r n es late legal fits =
     let unmade = shown_to r legal.role in
     let mine = own Program h in
     let back = back_of s r mine in
-    let new = new_of s r mine es in
+    let new = new_of back es in
     let asks = Reserve r (length new) Granted in
     let first = entry Kernel asks ∷ h in
     let second = entry Kernel (Submit r new) ∷ first in

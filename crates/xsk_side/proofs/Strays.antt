@@ -101,7 +101,7 @@ tx_moves s d past Program (Peek r n es) off legal shown =
     let given = strays_given s d (own Program past) in
     omega (
       arith,
-      is_false (is_ring (Comp d) r) (given - strays_in s (new_of s r (own Program past) es)) given off,
+      is_false (is_ring (Comp d) r) (given - strays_in s (new_of (back_of s r (own Program past)) es)) given off,
       part_unmade s d r (ring_at r past).out (drop (length es) (ring_at r past).out) (unmade_by r legal.role),
     )
   where
@@ -183,7 +183,7 @@ comp_moves s d past Program (Peek r n es) is history legal shown few =
     omega (
       arith,
       few,
-      is_true (is_ring (Comp d) r) (given - strays_in s (new_of s r (own Program past) es)) given (subst (λ x. is_ring (Comp d) x ≡ true) is (is_ring-self (Comp d))),
+      is_true (is_ring (Comp d) r) (given - strays_in s (new_of (back_of s r (own Program past)) es)) given (subst (λ x. is_ring (Comp d) x ≡ true) is (is_ring-self (Comp d))),
       strays_shown s (back_of s r (own Program past)) (ring_at r past).out es shown,
     )
 comp_moves s d past Program (Release r n) is history legal shown few = refl

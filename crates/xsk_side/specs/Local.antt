@@ -55,8 +55,8 @@ back_of s r [] = []
 back_of s r (call ∷ past) = if is_ring r (ring_of call) then back_after s past (back_of s r past) call else back_of s r past
 
 -- what a Peek shows beyond them
-abbrev pub new_of : Setting → Ring → List Call → List XdpDesc → List XdpDesc
-new_of s r past entries = drop (length (back_of s r past)) entries
+abbrev pub new_of : List XdpDesc → List XdpDesc → List XdpDesc
+new_of back entries = drop (length back) entries
 
 -- ---- frames, and addresses that name none
 
@@ -78,7 +78,7 @@ abbrev pub lost_after : Setting → ℕ → List Call → ℕ → Call → ℕ
 lost_after s d past lost (Reserve r n answer) = lost
 lost_after s d past lost (Free r n places) = lost
 lost_after s d past lost (Submit r entries) = if is_tx_of s d r then lost + strays_in s entries else lost
-lost_after s d past lost (Peek r n entries) = if is_ring (Comp d) r then lost - strays_in s (new_of s r past entries) else lost
+lost_after s d past lost (Peek r n entries) = if is_ring (Comp d) r then lost - strays_in s (new_of (back_of s r past) entries) else lost
 lost_after s d past lost (Release r n) = lost
 lost_after s d past lost (Cancel r n) = lost
 
@@ -93,22 +93,23 @@ FitsAnswer sure most n Granted = n ≤ most
 FitsAnswer sure most n (Full told) = (told < n) × (sure ≤ told) × (told ≤ most)
 FitsAnswer sure most n Refused = sure < n
 
--- the entries that are shown: first those that stand there again, as far as both reach, then new ones, each in a frame of its own,
--- where the ring has places
-pub record FitsEntries (s : Setting) (past : List Call) (r : Ring) (n : ℕ) (entries : List XdpDesc) : Type 0 where
+-- The entries that are shown: first those that stand there again, as far as both reach, then new ones, each in a frame of its own,
+-- where the ring has places. So many are held, and `from` tells on which ring each frame was given.
+pub record FitsEntries (s : Setting) (r : Ring) (back : List XdpDesc) (held : ℕ) (from : ℕ → Option Ring) (strays n : ℕ) (entries : List XdpDesc) : Type 0 where
   pub few : length entries ≤ n
-  pub none : entries ≡ [] → (n ≡ 0) ⊎ (back_of s r past ≡ [])
-  pub again : take (length (back_of s r past)) entries ≡ take (length entries) (back_of s r past)
-  pub places : length (held_of s r past) + length entries ≤ size_of s r
-  pub once : (f : ℕ) → times s f (new_of s r past entries) ≤ 1
-  pub new : MayCome s (given_of s past) (strays_given s (pair_of s r) past) r (new_of s r past entries)
+  pub none : entries ≡ [] → (n ≡ 0) ⊎ (back ≡ [])
+  pub again : take (length back) entries ≡ take (length entries) back
+  pub places : held + length entries ≤ size_of s r
+  pub once : (f : ℕ) → times s f (new_of back entries) ≤ 1
+  pub new : MayCome s from strays r (new_of back entries)
 
 -- a reply that some kernel may give
 abbrev pub FitsReply : Setting → List Call → Call → Type 0
 FitsReply s past (Reserve r n answer) = FitsAnswer (sure_of s r past) (most_of s r past) n answer
 FitsReply s past (Free r n places) = (places ≤ most_of s r past) × (places < n → sure_of s r past ≤ places)
 FitsReply s past (Submit r entries) = Unit {0}
-FitsReply s past (Peek r n entries) = FitsEntries s past r n entries
+FitsReply s past (Peek r n entries) =
+    FitsEntries s r (back_of s r past) (length (held_of s r past)) (given_of s past) (strays_given s (pair_of s r) past) n entries
 FitsReply s past (Release r n) = Unit {0}
 FitsReply s past (Cancel r n) = Unit {0}
 

@@ -5,8 +5,11 @@
 mod call;
 mod entries;
 pub mod laws;
+mod naming;
+mod placement;
 mod setting;
 
 pub use call::{Answer, Call, Party};
 pub use entries::Entries;
+pub use placement::is_made;
 pub use setting::{Pair, Rules, Setting, SettingError, Socket};
