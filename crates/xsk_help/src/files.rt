@@ -1,48 +1,44 @@
 //! Which file of the words a stream is.
 
+use crate::command::program;
+use clap::ArgMatches;
 use std::alloc::Global;
-use xsk_args::{Args, OptionRow, parse};
-use xsk_cli::options::{LAYOUT, ROUNDS, RUN, THREADS};
+use xsk_args::parse_number;
 use xsk_io::Stream;
 
 /// The word that names the file of a stream, where there is one.
 pub(crate) fn name_of<'a>(alloc: Global, words: &'a [String], stream: Stream) -> Option<&'a str> {
-    let (first, rest) = words.split_first()?;
-    match first.as_str() {
-        "gen" => rest.get(1).map(|file| file.as_str()),
-        "audit" => name_in(alloc, "audit", &[&LAYOUT], words, stream),
-        "forward" => name_in(alloc, "forward", &[&LAYOUT, &RUN, &THREADS], words, stream),
-        _ => name_in(alloc, "simulate", &[&LAYOUT, &RUN, &ROUNDS], words, stream),
-    }
-}
-
-/// The same of a command that has options.
-fn name_in<'a>(
-    alloc: Global,
-    command: &str,
-    tables: &[&[OptionRow]],
-    words: &'a [String],
-    stream: Stream,
-) -> Option<&'a str> {
-    let Ok(args) = parse(alloc, command, tables, words) else {
+    let Ok(program) = program(alloc) else {
         return None;
     };
-    let files = args.files()?;
-    let place = match stream {
-        Stream::Input(port) => port as usize,
-        Stream::Output(port) => {
-            let inputs = files.len().saturating_sub(count_outputs(&args));
-            inputs.saturating_add(port as usize)
-        }
-        Stream::Report => return None,
+    let Ok(matches) = program.try_get_matches_from(words) else {
+        return None;
     };
+    let (_name, said) = matches.subcommand()?;
+    let files = said.get_strs("FILE")?;
+    let place = place_of(said, files.len(), stream)?;
     files.get(place).copied()
 }
 
-/// How many outputs a command that makes a run has.
-fn count_outputs(args: &Args<'_>) -> usize {
-    if args.is_said("pcapng") {
+/// The place of a stream's file among so many: the inputs stand before the outputs.
+fn place_of(said: &ArgMatches<'_>, count: usize, stream: Stream) -> Option<usize> {
+    match stream {
+        Stream::Input(port) => Some(port as usize),
+        Stream::Output(port) => {
+            let inputs = count.saturating_sub(count_outputs(said));
+            Some(inputs.saturating_add(port as usize))
+        }
+        Stream::Report => None,
+    }
+}
+
+/// How many outputs a command has: one for each port, or one of pcapng and of `gen`.
+fn count_outputs(said: &ArgMatches<'_>) -> usize {
+    if said.contains_id("pcapng") || said.contains_id("N") {
         return 1;
     }
-    args.number("ports").unwrap_or(2) as usize
+    match said.get_str("ports") {
+        Some(text) => parse_number(text).unwrap_or(2) as usize,
+        None => 2,
+    }
 }
