@@ -1,6 +1,6 @@
 /* A program whose ring calls are recorded, over rings in plain memory: it makes the calls of a script, or one of the scenes below.
  *
- *     drive script FILE | threads COUNT CALLS | stages FRAMES | batches | order | fork | killed | much CALLS | guarded
+ *     drive script FILE | threads COUNT CALLS | stages FRAMES | uneven CALLS | batches | order | fork | killed | much CALLS | guarded
  *
  * A line of a script is a call, with `on N` before it where thread N makes it, or what the kernel does (`kernel ..`); `missed ..` is a call
  * that isn't recorded, and `hand RING N` moves the program's own count. */
@@ -317,6 +317,21 @@ static void batches(void)
 	}
 }
 
+/* A thread makes so many calls, and when it is done another one ten rounds. */
+static void uneven(uint32_t calls)
+{
+	char name[] = "v0", queue[] = "1", size[] = "64", own[] = "own";
+	char *words[] = {NULL, name, queue, size, size, own, NULL};
+	struct part parts[] = {{0, calls}, {1, 10}};
+	unsigned int i;
+	one_socket("64", "64");
+	make_socket(words);
+	for (i = 0; i < 2; i++) {
+		must(!pthread_create(&threads[i], NULL, part, &parts[i]), "no thread");
+		pthread_join(threads[i], NULL);
+	}
+}
+
 /* A list that one thread puts into and another takes from. */
 struct list {
 	uint64_t addresses[64];
@@ -515,6 +530,8 @@ int main(int count, char **words)
 		many((unsigned int)atoi(words[2]), (uint32_t)atoi(words[3]));
 	} else if (strcmp(words[1], "stages") == 0) {
 		stages((uint32_t)atoi(words[2]));
+	} else if (strcmp(words[1], "uneven") == 0) {
+		uneven((uint32_t)atoi(words[2]) / 4);
 	} else if (strcmp(words[1], "batches") == 0) {
 		batches();
 	} else if (strcmp(words[1], "order") == 0) {
