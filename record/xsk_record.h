@@ -457,8 +457,6 @@ XSK_RECORD_SLOW void xsk_record_new_umem(struct xsk_umem *umem, void *start, uin
 	told.headroom = config ? config->frame_headroom : XSK_UMEM__DEFAULT_FRAME_HEADROOM;
 	told.flags = config ? config->flags : 0;
 	told.number = area->number;
-	told.fill = area->fill;
-	told.completion = area->completion;
 	xsk_record_put(t, XSK_RECORD_UMEM, 0, 0, 0, 0, 0, &told, sizeof told);
 }
 

@@ -56,9 +56,9 @@ struct xsk_record {
 struct xsk_record_umem {
 	uint64_t size;
 	uint32_t chunk, headroom, flags;
-	uint16_t number, fill, completion, zero; /* rings by their numbers and 1, or 0 */
+	uint32_t number;
 };
-struct xsk_record_socket {
+struct xsk_record_socket { /* rings by their numbers and 1; 0: it has none, or FILL and COMPLETION are its queue's */
 	char ifname[16];
 	uint32_t queue, bind_flags;
 	uint16_t umem, rx, tx, fill, completion, zero[3];

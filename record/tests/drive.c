@@ -1,11 +1,12 @@
 /* A program whose ring calls are recorded, over rings in plain memory: it makes the calls of a script, or one of the scenes below.
  *
- *     drive script FILE | threads COUNT CALLS | fork | killed | much CALLS | guarded
+ *     drive script FILE | threads COUNT CALLS | stages FRAMES | uneven CALLS | batches | order | fork | killed | much CALLS | guarded
  *
  * A line of a script is a call, with `on N` before it where thread N makes it, or what the kernel does (`kernel ..`); `missed ..` is a call
  * that isn't recorded, and `hand RING N` moves the program's own count. */
 #include <xsk_record.h>
 #include <pthread.h>
+#include <sched.h>
 #include <signal.h>
 #include <stdbool.h>
 #include <sys/wait.h>
@@ -63,7 +64,7 @@ static void make_umem(char **w)
 	pairs++;
 }
 
-/* socket IFNAME QUEUE RX TX first|own|shared [FLAGS]: with the UMEM's pair, a new one, or that of its queue */
+/* socket IFNAME QUEUE RX TX first|same|own|shared [FLAGS]: with the UMEM's pair (same: named again), a new one, or that of its queue */
 static void make_socket(char **w)
 {
 	struct xsk_socket_config config = {0};
@@ -76,6 +77,9 @@ static void make_socket(char **w)
 	config.bind_flags = w[6] ? (uint16_t)atoi(w[6]) : 0;
 	if (strcmp(w[5], "first") == 0)
 		fault = xsk_socket__create(&sockets[k], w[1], queue, umem[umems - 1], r, t, &config);
+	else if (strcmp(w[5], "same") == 0)
+		fault = xsk_socket__create_shared(
+			&sockets[k], w[1], queue, umem[umems - 1], r, t, &fill[pairs - 1], &comp[pairs - 1], &config);
 	else if (strcmp(w[5], "own") == 0)
 		fault = xsk_socket__create_shared(&sockets[k], w[1], queue, umem[umems - 1], r, t, &fill[pairs], &comp[pairs], &config);
 	else
@@ -294,6 +298,149 @@ static void many(unsigned int count, uint32_t calls)
 		pthread_join(threads[i], NULL);
 }
 
+/* Batches that a record has no room for: a whole ring goes to FILL and comes on RX. */
+static void batches(void)
+{
+	uint32_t index, i, turn;
+	one_socket("4096", "4096");
+	for (turn = 0; turn < 2; turn++) {
+		must(xsk_ring_prod__reserve(&fill[0], 2500, &index) == 2500, "no place");
+		for (i = 0; i < 2500; i++)
+			*xsk_ring_prod__fill_addr(&fill[0], index + i) = i * (uint64_t)CHUNK;
+		xsk_ring_prod__submit(&fill[0], 2500);
+		*fill[0].consumer += 2500;
+		for (i = 0; i < 2500; i++)
+			((struct xdp_desc *)rx[0].ring)[(*rx[0].producer)++ & rx[0].mask] =
+				(struct xdp_desc){i * (uint64_t)CHUNK + 256, 60, 0};
+		must(xsk_ring_cons__peek(&rx[0], 3000, &index) == 2500, "not all came");
+		xsk_ring_cons__release(&rx[0], 2500);
+	}
+}
+
+/* A thread makes so many calls, and when it is done another one ten rounds. */
+static void uneven(uint32_t calls)
+{
+	char name[] = "v0", queue[] = "1", size[] = "64", own[] = "own";
+	char *words[] = {NULL, name, queue, size, size, own, NULL};
+	struct part parts[] = {{0, calls}, {1, 10}};
+	unsigned int i;
+	one_socket("64", "64");
+	make_socket(words);
+	for (i = 0; i < 2; i++) {
+		must(!pthread_create(&threads[i], NULL, part, &parts[i]), "no thread");
+		pthread_join(threads[i], NULL);
+	}
+}
+
+/* A list that one thread puts into and another takes from. */
+struct list {
+	uint64_t addresses[64];
+	uint32_t put, taken;
+};
+static struct list received, completed;
+static uint32_t frames_left;
+
+static void hand_on(struct list *list, uint64_t address)
+{
+	list->addresses[list->put % 64] = address;
+	__atomic_store_n(&list->put, list->put + 1, __ATOMIC_RELEASE);
+}
+
+static bool take_over(struct list *list, uint64_t *address)
+{
+	if (__atomic_load_n(&list->put, __ATOMIC_ACQUIRE) == list->taken)
+		return false;
+	*address = list->addresses[list->taken++ % 64];
+	return true;
+}
+
+static bool going(void) { return __atomic_load_n(&frames_left, __ATOMIC_ACQUIRE) > 0; }
+
+/* Takes from RX, and hands each frame on. */
+static void *receives(void *argument)
+{
+	uint32_t index, count, i;
+	for (; going(); sched_yield()) {
+		count = xsk_ring_cons__peek(&rx[0], 8, &index);
+		for (i = 0; i < count; i++)
+			hand_on(&received, xsk_ring_cons__rx_desc(&rx[0], index + i)->addr);
+		if (count)
+			xsk_ring_cons__release(&rx[0], count);
+	}
+	return argument;
+}
+
+/* Sends what was handed to it, and hands on what was sent. */
+static void *sends(void *argument)
+{
+	uint64_t address;
+	uint32_t index, count, i;
+	for (; going(); sched_yield()) {
+		while (take_over(&received, &address)) {
+			must(xsk_ring_prod__reserve(&tx[0], 1, &index) == 1, "no place on TX");
+			*xsk_ring_prod__tx_desc(&tx[0], index) = (struct xdp_desc){address, 60, 0};
+			xsk_ring_prod__submit(&tx[0], 1);
+		}
+		count = xsk_ring_cons__peek(&comp[0], 8, &index);
+		for (i = 0; i < count; i++)
+			hand_on(&completed, *xsk_ring_cons__comp_addr(&comp[0], index + i));
+		if (count)
+			xsk_ring_cons__release(&comp[0], count);
+	}
+	return argument;
+}
+
+/* Gives what was sent back to FILL, until so many frames went round. */
+static void *refills(void *argument)
+{
+	uint64_t address;
+	uint32_t index;
+	for (; going(); sched_yield())
+		while (going() && take_over(&completed, &address)) {
+			must(xsk_ring_prod__reserve(&fill[0], 1, &index) == 1, "no place on FILL");
+			*xsk_ring_prod__fill_addr(&fill[0], index) = address / CHUNK * CHUNK;
+			xsk_ring_prod__submit(&fill[0], 1);
+			__atomic_sub_fetch(&frames_left, 1, __ATOMIC_ACQ_REL);
+		}
+	return argument;
+}
+
+/* The kernel: what stands on FILL comes on RX, and what stands on TX on COMPLETION. */
+static void *moves(void *argument)
+{
+	while (going()) {
+		while (*fill[0].consumer != __atomic_load_n(fill[0].producer, __ATOMIC_ACQUIRE)) {
+			uint64_t address = ((__u64 *)fill[0].ring)[*fill[0].consumer & fill[0].mask];
+			((struct xdp_desc *)rx[0].ring)[*rx[0].producer & rx[0].mask] = (struct xdp_desc){address + 256, 60, 0};
+			__atomic_store_n(fill[0].consumer, *fill[0].consumer + 1, __ATOMIC_RELEASE);
+			__atomic_store_n(rx[0].producer, *rx[0].producer + 1, __ATOMIC_RELEASE);
+		}
+		while (*tx[0].consumer != __atomic_load_n(tx[0].producer, __ATOMIC_ACQUIRE)) {
+			((__u64 *)comp[0].ring)[*comp[0].producer & comp[0].mask] =
+				((struct xdp_desc *)tx[0].ring)[*tx[0].consumer & tx[0].mask].addr;
+			__atomic_store_n(tx[0].consumer, *tx[0].consumer + 1, __ATOMIC_RELEASE);
+			__atomic_store_n(comp[0].producer, *comp[0].producer + 1, __ATOMIC_RELEASE);
+		}
+		sched_yield();
+	}
+	return argument;
+}
+
+/* Three threads, of which each hands its frames to the next. */
+static void stages(uint32_t frames)
+{
+	void *(*parts[])(void *) = {receives, sends, refills, moves};
+	unsigned int i;
+	one_socket("32", "32");
+	frames_left = frames;
+	for (i = 0; i < 32; i++)
+		hand_on(&completed, i * (uint64_t)CHUNK);
+	for (i = 0; i < 4; i++)
+		must(!pthread_create(&threads[i], NULL, parts[i], NULL), "no thread");
+	for (i = 0; i < 4; i++)
+		pthread_join(threads[i], NULL);
+}
+
 /* The parent gives a frame, its child takes it when it has come, and the parent gives it again. */
 static void forked(void)
 {
@@ -306,6 +453,55 @@ static void forked(void)
 	if (!child)
 		exit(0);
 	waitpid(child, NULL, 0);
+}
+
+static volatile uint64_t touched_time; /* when a guarded page was touched */
+static char *volatile touched_record;  /* where the next record went then */
+static void *volatile page;
+
+static void touched(int number)
+{
+	(void)number;
+	touched_record = xsk_record_mine->at;
+	touched_time = xsk_record_now();
+	must(!mprotect(page, 4096, PROT_READ | PROT_WRITE), "no page");
+}
+
+/* Lets the next touch of a ring's counts be seen: each, or where it is written to. */
+static const struct xsk_record *watch(uint32_t *counts, int allowed)
+{
+	page = counts;
+	touched_record = NULL;
+	must(!mprotect(page, 4096, allowed), "no page");
+	return (const struct xsk_record *)(const void *)xsk_record_mine->at;
+}
+
+/* What gives is recorded, with its time, before it is done; and what takes behind it. */
+static void order(void)
+{
+	const struct xsk_record *record;
+	uint32_t index, i;
+	one_socket("4", "4");
+	rounds(0, 3);
+	signal(SIGSEGV, touched);
+	for (i = 0; i < 2; i++) {
+		record = watch(fill[0].producer, PROT_NONE);
+		must(xsk_ring_prod__reserve(&fill[0], 4, &index) == 4 && touched_record == (const char *)record,
+			"reserve is recorded too early");
+		must(record->time >= touched_time, "reserve's time is before it");
+		record = watch(fill[0].producer, PROT_READ);
+		xsk_ring_prod__submit(&fill[0], 4);
+		must(touched_record > (const char *)record && record->time <= touched_time, "submit is recorded too late");
+		*fill[0].consumer += 4;
+		((struct xdp_desc *)rx[0].ring)[*rx[0].producer & rx[0].mask] = (struct xdp_desc){256, 60, 0};
+		*rx[0].producer += 1;
+		record = watch(rx[0].producer, PROT_NONE);
+		must(xsk_ring_cons__peek(&rx[0], 4, &index) == 1 && touched_record == (const char *)record, "peek is recorded too early");
+		must(record->time >= touched_time, "peek's time is before it");
+		record = watch(rx[0].producer, PROT_READ);
+		xsk_ring_cons__release(&rx[0], 1);
+		must(touched_record > (const char *)record && record->time <= touched_time, "release is recorded too late");
+	}
 }
 
 /* A frame that was submitted can't be written to, until it comes back. */
@@ -332,6 +528,14 @@ int main(int count, char **words)
 		script(words[2]);
 	} else if (strcmp(words[1], "threads") == 0) {
 		many((unsigned int)atoi(words[2]), (uint32_t)atoi(words[3]));
+	} else if (strcmp(words[1], "stages") == 0) {
+		stages((uint32_t)atoi(words[2]));
+	} else if (strcmp(words[1], "uneven") == 0) {
+		uneven((uint32_t)atoi(words[2]) / 4);
+	} else if (strcmp(words[1], "batches") == 0) {
+		batches();
+	} else if (strcmp(words[1], "order") == 0) {
+		order();
 	} else if (strcmp(words[1], "fork") == 0) {
 		forked();
 	} else if (strcmp(words[1], "much") == 0) {

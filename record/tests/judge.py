@@ -1,8 +1,8 @@
 #!/usr/bin/env python3
 """Whether a recording is possible, by the rules of docs/RECORDING.md: judge.py FILE
 
-Prints `possible N`, or `not possible L` and why, L being the first line that no kernel could have answered so, or by which the program
-broke a rule. Status 0, 1, or 2 where the file is no recording. A program in Python for the tests, and no proof."""
+Prints `possible N` and where all frames are at the end; or `not possible L` and why, L being the first line that no kernel could have
+answered so, or by which the program broke a rule. Status 0, 1, or 2 where the file is no recording. A program in Python for the tests, and no proof."""
 
 import sys
 
@@ -49,6 +49,14 @@ class Judge:
             return "the program has it"
         ring, line = self.place[frame]
         return f"it is with {ring} since line {line}"
+
+    def census(self):
+        """Where all frames are."""
+        counts = {}
+        for ring, _ in self.place.values():
+            counts[ring] = counts.get(ring, 0) + 1
+        parts = [f"{count} with {ring}" for ring, count in sorted(counts.items())]
+        return ", ".join(parts + [f"{self.frames - len(self.place)} with the program"])
 
     def step(self, call, ring, *rest):
         """Judges one call, and keeps what it shows."""
@@ -213,7 +221,7 @@ def judged(lines):
                 judge.step(*call)
         except Refused as why:
             return 1, f"not possible {judge.line}\n  {line.rstrip()[:160]}\n  {why}"
-    return 0, f"possible {count}"
+    return 0, f"possible {count}\n  at the end: {judge.census()}"
 
 
 def main():

@@ -22,28 +22,25 @@ def built():
     return subprocess.run(["make", "-s", "-C", TOP], stdout=subprocess.DEVNULL, stderr=subprocess.DEVNULL, check=False).returncode == 0
 
 
-def run(program, folder, *words, signal_behind=None, environment=None):
-    """Runs a forwarder over two ports, with packets from both sides: its status and what it told, and the files of its recording."""
-    for number in (0, 1):
-        veth(f"v{number}", f"t{number}")
+def run(program, folder, *words, ports=2, length=None, ended_by=signal.SIGINT):
+    """Runs a forwarder over ports, with packets from all sides: its status and what it told, and the files of its recording."""
+    names = [f"v{number}" for number in range(ports)]
+    for number, name in enumerate(names):
+        veth(name, f"t{number}", mtu=9000 if length else 1500)
     record = os.path.join(folder, "run")
-    with subprocess.Popen([os.path.join(TOP, "out", program), "-i", "400", *words, "v0", "v1"], stdout=subprocess.PIPE,
-                          stderr=subprocess.PIPE, text=True, env={**os.environ, "XSK_RECORD": record, **(environment or {})}) as process:
+    with subprocess.Popen([os.path.join(TOP, "out", program), *words, *names], stdout=subprocess.PIPE, stderr=subprocess.PIPE, text=True,
+                          env={**os.environ, "XSK_RECORD": record}) as process:
         process.stdout.readline()
-        wires = Wire("t0"), Wire("t1")
+        wires = [Wire(f"t{number}") for number in range(ports)]
         for number in range(PACKETS):
             for wire in wires:
-                wire.socket.send(packet(60 + number, number % 256))
+                content = packet(length or 60 + number, number % 256)
+                wire.socket.send(content[:11] + bytes([number % 256]) + content[12:])
             if number % 4 == 3:
                 time.sleep(0.001)
-        if signal_behind:
-            time.sleep(0.1)
-            process.send_signal(signal_behind)
-        try:
-            out, faults = process.communicate(timeout=10)
-        except subprocess.TimeoutExpired:
-            process.send_signal(signal.SIGINT)
-            out, faults = process.communicate()
+        time.sleep(0.5)
+        process.send_signal(ended_by)
+        out, faults = process.communicate()
     return process.returncode, out, faults, sorted(os.path.join(folder, name) for name in os.listdir(folder) if name.startswith("run."))
 
 
@@ -67,7 +64,7 @@ def correct():
     if not built():
         return
     with tempfile.TemporaryDirectory() as folder:
-        status, out, _, files = run("l2fwd-recorded", folder)
+        status, out, _, files = run("l2fwd-recorded", folder, "-i", "20000")
         yield "status, what was forwarded", (status, out.split()[2:8:2]), (0, [str(PACKETS)] * 3)
         status, told, text = merged(files, folder)
         yield "xsk-merge", (status, told), (0, "")
@@ -84,7 +81,7 @@ def mistakes():
         return
     for mistake, wanted in MISTAKES.items():
         with tempfile.TemporaryDirectory() as folder:
-            *_, files = run("l2fwd-recorded", folder, "-m", str(mistake))
+            *_, files = run("l2fwd-recorded", folder, "-i", "20000", "-m", str(mistake))
             said = judged(merged(files, folder)[2])
             if wanted is None:
                 yield f"mistake {mistake}", said[0].split()[0], "possible"
@@ -98,9 +95,9 @@ def guarded():
     if not built():
         return
     with tempfile.TemporaryDirectory() as folder:
-        status, _, faults, _ = run("l2fwd-guarded", folder)
+        status, _, faults, _ = run("l2fwd-guarded", folder, "-i", "20000")
         yield "correct", (status, "AddressSanitizer" in faults), (0, False)
-        status, _, faults, _ = run("l2fwd-guarded", folder, "-m", "6")
+        status, _, faults, _ = run("l2fwd-guarded", folder, "-i", "20000", "-m", "6")
         yield "mistake 6", (status != 0, "use-after-poison" in faults, "l2fwd.c" in faults), (True, True, True)
 
 
@@ -110,8 +107,35 @@ def killed():
     if not built():
         return
     with tempfile.TemporaryDirectory() as folder:
-        status, _, _, files = run("l2fwd-recorded", folder, signal_behind=signal.SIGKILL)
+        status, _, _, files = run("l2fwd-recorded", folder, "-i", "20000", ended_by=signal.SIGKILL)
         yield "status", status, -signal.SIGKILL
         status, told, text = merged(files, folder)
         yield "xsk-merge", (status, "didn't come to its exit" in told), (0, True)
         yield "the judge", judged(text)[0].split()[0], "possible"
+
+
+SETTINGS = {
+    "two ports": ([], {}),
+    "one port": ([], {"ports": 1}),
+    "RX alone": (["-o", "rx"], {}),
+    "TX alone": (["-o", "tx"], {}),
+    "two sockets on a queue": (["-s", "2"], {"ports": 1}),
+    "two threads": (["-t"], {}),
+    "four sockets on a queue, with need-wakeup": (["-w", "-s", "4"], {"ports": 1}),
+    "XDP_USE_NEED_WAKEUP": (["-w"], {}),
+    "XDP_USE_SG with 9,000 bytes": (["-g"], {"length": 9000}),
+    "16,384 frames": (["-n", "16384"], {}),
+}
+
+
+@case(PAGE, "a correct program's recording is possible, whatever its settings")
+def settings():
+    """Each setting: the program's status, xsk-merge's, what the judge tells, and whether packets moved."""
+    if not built():
+        return
+    for name, (words, how) in SETTINGS.items():
+        with tempfile.TemporaryDirectory() as folder:
+            status, out, _, files = run("settings", folder, *words, **how)
+            merge, told, text = merged(files, folder)
+            moved = bool(out) and all(max(map(int, line.split()[1::2])) >= PACKETS for line in out.splitlines())
+            yield name, (status, merge, told, judged(text)[0].split()[0], moved), (0, 0, "", "possible", True)

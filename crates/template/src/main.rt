@@ -19,10 +19,10 @@ use xsk_prog::{Chain, Rule, XdpProgram};
 use xsk_socket::{Layout, all_frames, regular};
 use xsk_umem::{Frames, PacketList, Umem};
 
-/// The room for what a driver sends.
+/// The room for what a driver sends: the most that a capture may have. What isn't used takes no pages.
 const ROOM: Amount = Amount {
-    packets: 1_000,
-    bytes: 1_000_000,
+    packets: 65_536,
+    bytes: 33_554_432,
 };
 
 fn main(rt: HostRuntime) -> Result<()> {
@@ -84,7 +84,9 @@ fn write<R: Files + Print + AllocGlobal>(
     bench: &Bench<'_>,
     port: u32,
 ) -> Result<()> {
-    let sent = bench.sent(port).context("there was room for all")?;
+    let sent = bench
+        .sent(port)
+        .context("a port sent more than a capture may have")?;
     println!(rt; "port {port} sent {} packets", sent.len())?;
     let bytes = capture_of(rt.alloc(), sent)?;
     Ok(fs::write(rt, name.as_str(), bytes)?)
@@ -93,7 +95,7 @@ fn write<R: Files + Print + AllocGlobal>(
 /// The capture of some packets.
 fn capture_of(alloc: Global, list: &PacketList) -> Result<Vec<u8>> {
     if list.len() > 65_536 || list.bytes() > 33_554_432 || !are_short(list) {
-        bail!("it is too much for a capture");
+        bail!("a packet is too long for a capture, or all are too many");
     }
     let mut capture = Capture::start(alloc)?;
     capture.add(list)?;

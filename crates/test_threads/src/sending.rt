@@ -75,8 +75,8 @@ fn suits(config: &Config, hands: u32) -> bool
 fn set_up_for(alloc: Global, run: Run<'_>) -> Option<(Config, Frames)>
     ensures regular { IfSome result (λ made. IsRegular made.0) }
     ensures frames { IfSome result (λ made. AreFrames made.0.geometry made.1.items) }
-    ensures ports { IfSome result (λ made. made.0.ports ≡ run.layout.now.ports) }
-    ensures suits { IfSome result (λ made. SuitHands run.hands made.0) }
+    ensures ports { IfSome result (λ made. made.0.ports ≡ run.entry.layout.now.ports) }
+    ensures suits { IfSome result (λ made. SuitHands run.entry.hands made.0) }
 {
     let (config, frames) = set_up(alloc, run.layout)?;
     if suits(&config, run.hands) {

@@ -10,16 +10,16 @@
 extern "C" {
 #endif
 
-#define DEFINE_XSK_RING(name) \
-	struct name { \
-		__u32 cached_prod; \
-		__u32 cached_cons; \
-		__u32 mask; \
-		__u32 size; \
-		__u32 *producer; \
-		__u32 *consumer; \
-		void *ring; \
-		__u32 *flags; \
+#define DEFINE_XSK_RING(name)                                                                                                              \
+	struct name {                                                                                                                      \
+		__u32 cached_prod;                                                                                                         \
+		__u32 cached_cons;                                                                                                         \
+		__u32 mask;                                                                                                                \
+		__u32 size;                                                                                                                \
+		__u32 *producer;                                                                                                           \
+		__u32 *consumer;                                                                                                           \
+		void *ring;                                                                                                                \
+		__u32 *flags;                                                                                                              \
 	}
 DEFINE_XSK_RING(xsk_ring_prod);
 DEFINE_XSK_RING(xsk_ring_cons);
