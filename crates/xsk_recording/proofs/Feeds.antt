@@ -1,11 +1,11 @@
 -- Lines that are read one after another, whatever the pieces.
-use Rattle.std.proofs.Common.{◌≡◌, ◌≢◌, ℕ, zero, suc, ◌+◌, ◌<◌, ◌≤◌, ◌⊎◌, Option, Some, None, List, [], ◌∷◌, ◌++◌, length, take, slice_index, refl, sym, ap, ◌∙◌, arith, true, inl, inr, append_assoc, append-nil, length-append}
+use Rattle.std.proofs.Common.{◌≡◌, ◌≢◌, ℕ, zero, suc, ◌+◌, ◌<◌, ◌≤◌, ◌⊎◌, Option, Some, None, List, [], ◌∷◌, ◌++◌, length, take, slice_index, refl, sym, ap, ◌∙◌, arith, true, inl, inr, append_assoc, append-nil, length-append, false}
 use Rattle.std.specs.Prelude.{◌==◌, unwrap_or}
 use Rattle.std.proofs.lemmas.Bool.{cases_Bool, eqb-true}
 use Rattle.xsk_lines.specs.Lines.{in_front, lines_of}
 use Rattle.xsk_lines.specs.Reading.{◌>>=◌}
-use Rattle.xsk_recording.specs.Text.{Numbered, Read, nothing_read, line_after, lines_after, most_bytes}
-use Rattle.xsk_recording.specs.Feeding.{Reader, Shows, has_no_feed, IsLine, AreLines, joined, StandsFor, Goes, Tells, IsNext, IsFault, IsKept}
+use Rattle.xsk_recording.specs.Text.{Numbered, Read, nothing_read, line_after, lines_after, most_bytes, ends_line}
+use Rattle.xsk_recording.specs.Feeding.{Reader, Shows, has_no_feed, IsLine, AreLines, joined, StandsFor, Goes, Tells, HasFault, IsNext, IsFault, IsKept}
 use Rattle.xsk_recording.specs.declared.reading.Event.{Event}
 use Rattle.xsk_recording.specs.declared.reading.Event.TheVariants as an_event
 use Rattle.xsk_recording.proofs.Lines.{line-long}
@@ -63,6 +63,34 @@ joined-one-more (l ∷ whole) line = ap (λ (j : List ℕ). l ++ j) (joined-one-
 all-one-more : (whole : List (List ℕ)) (line : List ℕ) → AreLines whole → IsLine line → AreLines (whole ++ line ∷ [])
 all-one-more [] line all is = (is, tt)
 all-one-more (l ∷ whole) line all is = (all.0, all-one-more whole line all.1 is)
+
+-- ---- the end of a line
+
+pub ends-at : (xs : List ℕ) (i : ℕ) → i < length xs → slice_index xs i ≡ 10 → ends_line (take (suc i) xs) ≡ true
+unfolding ends_line
+ends-at [] i within here = absurd (omega (arith, within))
+ends-at (b ∷ bs) zero within here = rw here refl
+ends-at (b ∷ []) (suc i) within here = absurd (omega (arith, within))
+ends-at (b ∷ c ∷ bs) (suc i) within here = ends-at (c ∷ bs) i (omega (arith, within)) here
+
+pub ends-behind : (xs ys : List ℕ) → ends_line ys ≡ true → ends_line (xs ++ ys) ≡ true
+unfolding ends_line
+ends-behind [] ys ends = ends
+ends-behind (x ∷ []) [] ends = cc ends
+ends-behind (x ∷ []) (y ∷ ys) ends = ends
+ends-behind (x ∷ z ∷ xs) ys ends = ends-behind (z ∷ xs) ys ends
+
+pub unended : (xs : List ℕ) → has_no_feed xs ≡ true → ends_line xs ≡ false
+unfolding ends_line
+unended [] none = refl
+unended (b ∷ []) none = elim (cases_Bool (b == 10)) [
+  | inl feed ↦ cc (rw feed at none)
+  | inr other ↦ other
+]
+unended (b ∷ c ∷ bs) none = elim (cases_Bool (b == 10)) [
+  | inl feed ↦ cc (rw feed at none)
+  | inr other ↦ unended (c ∷ bs) (rw other at none)
+]
 
 -- ---- what was read
 
@@ -186,24 +214,20 @@ not-empty : (xs : List ℕ) → 0 < length xs → xs ≢ []
 not-empty [] some is = omega (arith, some)
 not-empty (x ∷ xs) some is = cc is
 
-pub kept-next : (old new : Reader) (text : List ℕ) (r : Read) (piece rest : List ℕ) (event : Event) → StandsFor old text r → rest ≡ []
-    → has_no_feed piece ≡ true → IsKept old new piece event → IsNext old new text r piece event rest
-kept-next old new text r piece rest an_event.Begun stands none feed kept = (
-  none,
-  rw kept.0 (record {
-    whole = stands.whole;
-    text_is = ap (λ (t : List ℕ). t ++ piece) stands.text_is ∙ append_assoc (joined stands.whole) old.begun piece;
-    lines = stands.lines;
-    begun = no-feed-both old.begun piece stands.begun feed;
-    read = stands.read;
-    shows = record { next = stands.shows.next; setting = stands.shows.setting; time = stands.shows.time; lines = stands.shows.lines };
-  }),
-)
-kept-next old new text r piece rest an_event.Passed stands none feed kept = absurd kept
-kept-next old new text r piece rest (an_event.Setting s) stands none feed kept = absurd kept
-kept-next old new text r piece rest (an_event.NoSetting error) stands none feed kept = absurd kept
-kept-next old new text r piece rest (an_event.Call call) stands none feed kept = absurd kept
-kept-next old new text r piece rest an_event.Fault stands none feed kept = λ later.
+pub kept-next : (old new : Reader) (text : List ℕ) (r : Read) (piece : List ℕ) → StandsFor old text r
+    → has_no_feed piece ≡ true → IsKept old new piece true → StandsFor new (text ++ piece) r
+kept-next old new text r piece stands feed kept = rw kept.0 (record {
+  whole = stands.whole;
+  text_is = ap (λ (t : List ℕ). t ++ piece) stands.text_is ∙ append_assoc (joined stands.whole) old.begun piece;
+  lines = stands.lines;
+  begun = no-feed-both old.begun piece stands.begun feed;
+  read = stands.read;
+  shows = record { next = stands.shows.next; setting = stands.shows.setting; time = stands.shows.time; lines = stands.shows.lines };
+})
+
+pub long-next : (old : Reader) (text : List ℕ) (r : Read) (piece later : List ℕ) → StandsFor old text r
+    → has_no_feed piece ≡ true → most_bytes < length old.begun + length piece → HasFault (text ++ piece ++ later) r
+long-next old text r piece later stands feed kept =
     let long : most_bytes < length (old.begun ++ piece) = rw (length-append old.begun piece) kept in
     let first = begins-long (old.begun ++ piece) later (no-feed-both old.begun piece stands.begun feed) (not-empty (old.begun ++ piece) (omega (arith, long))) in
     record {

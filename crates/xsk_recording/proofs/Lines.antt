@@ -1,13 +1,13 @@
 -- One line more.
 use Rattle.std.proofs.Common.{◌≡◌, ℕ, ◌+◌, ◌<◌, ◌≤◌, ◌⊎◌, Option, Some, None, List, length, refl, sym, ap, subst, ◌∙◌, true, false, inl, inr}
-use Rattle.std.specs.Prelude.{Bool, nat_le, codes, unwrap_or}
+use Rattle.std.specs.Prelude.{nat_lt, Bool, nat_le, codes, unwrap_or}
 use Rattle.xsk_side.specs.Setting.{Setting}
 use Rattle.std.proofs.lemmas.Bool.{cases_Bool, le-leb, lt-leb, lt-ltb, le-ltb}
 use Rattle.xsk_lines.specs.Reading.{◌>>=◌}
 use Rattle.xsk_recording.specs.Line.{line_at, ended, is_ended}
 use Rattle.xsk_recording.specs.Header.{Header, header_line, header_after, towards}
 use Rattle.xsk_recording.specs.Heads.{head_view, is_mark, IsNoSetting}
-use Rattle.xsk_recording.specs.Text.{Read, line_after, body_after, header_read, call_after, with_told, most_bytes, most_lines}
+use Rattle.xsk_recording.specs.Text.{Read, line_after, body_after, header_read, call_after, with_told, most_bytes, most_lines, ends_line}
 use Rattle.xsk_recording.specs.Feeding.{Reader, Shows, KeepsSetting, Tells, IsHanded, is_calls}
 use Rattle.xsk_recording.specs.declared.head.Next.{Next}
 use Rattle.xsk_recording.specs.declared.head.Next.TheVariants.{Title, Umem, Pairs, Sockets, Mark, Calls}
@@ -29,9 +29,23 @@ line-late r xs late = elim (cases_Bool (nat_le (length xs) most_bytes)) [
   | inr long ↦ rw long refl
 ]
 
-pub line-body : (r : Read) (xs : List ℕ) → length xs ≤ most_bytes → r.lines < most_lines → line_after r xs ≡ body_after r.header.next r xs
+pub line-unended : (r : Read) (xs : List ℕ) → ends_line xs ≡ false → line_after r xs ≡ None
 unfolding line_after
-line-body r xs short few = rw (le-leb _ _ short, lt-ltb _ _ few) refl
+line-unended r xs unended = elim (cases_Bool (nat_le (length xs) most_bytes)) [
+  | inl short ↦ elim (cases_Bool (nat_lt r.lines most_lines)) [
+    | inl few ↦ rw (short, few, unended) refl
+    | inr late ↦ rw (short, late) refl
+  ]
+  | inr long ↦ rw long refl
+]
+
+-- a line that may be of the form
+abbrev pub IsWhole : Read → List ℕ → Type 0
+IsWhole r xs = (length xs ≤ most_bytes) × (r.lines < most_lines) × (ends_line xs ≡ true)
+
+line-body : (r : Read) (xs : List ℕ) → IsWhole r xs → line_after r xs ≡ body_after r.header.next r xs
+unfolding line_after
+line-body r xs whole = rw (le-leb _ _ whole.0, lt-ltb _ _ whole.1, whole.2) refl
 
 some-value : {A : Type 0} (x y : A) → ◌≡◌ {A = Option A} (Some x) (Some y) → x ≡ y
 some-value {A} x y e = ap (λ (r : Option A). unwrap_or r x) e
@@ -46,9 +60,8 @@ body-header Sockets r xs header = refl
 body-header Mark r xs header = refl
 body-header Calls r xs header = cc header
 
-pub line-header : (r : Read) (xs : List ℕ) → length xs ≤ most_bytes → r.lines < most_lines → is_calls r.header.next ≡ false
-    → line_after r xs ≡ header_read r xs
-line-header r xs short few header = line-body r xs short few ∙ body-header r.header.next r xs header
+line-header : (r : Read) (xs : List ℕ) → IsWhole r xs → is_calls r.header.next ≡ false → line_after r xs ≡ header_read r xs
+line-header r xs whole header = line-body r xs whole ∙ body-header r.header.next r xs header
 
 body-call : (next : Next) (r : Read) (xs : List ℕ) → is_calls next ≡ true → body_after next r xs ≡ (line_at xs >>= call_after r)
 body-call Title r xs calls = cc calls
@@ -58,9 +71,8 @@ body-call Sockets r xs calls = cc calls
 body-call Mark r xs calls = cc calls
 body-call Calls r xs calls = refl
 
-pub line-call : (r : Read) (xs : List ℕ) → length xs ≤ most_bytes → r.lines < most_lines → is_calls r.header.next ≡ true
-    → line_after r xs ≡ (line_at xs >>= call_after r)
-line-call r xs short few calls = line-body r xs short few ∙ body-call r.header.next r xs calls
+line-call : (r : Read) (xs : List ℕ) → IsWhole r xs → is_calls r.header.next ≡ true → line_after r xs ≡ (line_at xs >>= call_after r)
+line-call r xs whole calls = line-body r xs whole ∙ body-call r.header.next r xs calls
 
 -- a line of the header that was read by a reader that shows what was told
 pub record IsHeaded (r : Read) (xs : List ℕ) (header : Header) : Type 0 where
@@ -174,11 +186,11 @@ next-headed r xs header h = elim h.headed [
 ]
 
 abbrev pub HasHeader : Reader → Read → List ℕ → Type 0
-HasHeader old r xs = Shows old r × (length xs ≤ most_bytes) × (old.lines < most_lines) × (is_calls old.header.next ≡ false)
+HasHeader old r xs = Shows old r × (length xs ≤ most_bytes) × (old.lines < most_lines) × (is_calls old.header.next ≡ false) × (ends_line xs ≡ true)
 
 header-here : (old : Reader) (r : Read) (xs : List ℕ) → HasHeader old r xs → line_after r xs ≡ header_read r xs
 header-here old r xs has =
-    line-header r xs has.1 (subst (λ n. n < most_lines) has.0.lines has.2) (subst (λ (n : Next). is_calls n ≡ false) has.0.next has.3)
+    line-header r xs (has.1, subst (λ n. n < most_lines) has.0.lines has.2, has.4) (subst (λ (n : Next). is_calls n ≡ false) has.0.next has.3)
 
 pub header-told : (old : Reader) (r : Read) (xs : List ℕ) (b : Bool) (header : Header) → HasHeader old r xs
     → head_view b header ≡ header_after old.header xs → Headed r xs b header
@@ -256,20 +268,20 @@ header-handed old new r xs header event has told mark is next time lines =
 
 -- ---- calls
 
-call-here : (old : Reader) (r : Read) (xs : List ℕ) → Shows old r → length xs ≤ most_bytes → old.lines < most_lines → is_calls old.header.next ≡ true
-    → line_after r xs ≡ (line_at xs >>= call_after r)
-call-here old r xs shows short few calls =
-    line-call r xs short (subst (λ n. n < most_lines) shows.lines few) (subst (λ (n : Next). is_calls n ≡ true) shows.next calls)
+abbrev pub HasCall : Reader → Read → List ℕ → Type 0
+HasCall old r xs = Shows old r × (length xs ≤ most_bytes) × (old.lines < most_lines) × (is_calls old.header.next ≡ true) × (ends_line xs ≡ true)
 
-pub call-none : (old : Reader) (r : Read) (xs : List ℕ) → Shows old r → length xs ≤ most_bytes → old.lines < most_lines → is_calls old.header.next ≡ true
-    → line_at xs ≡ None → line_after r xs ≡ None
-call-none old r xs shows short few calls none = call-here old r xs shows short few calls ∙ ap (λ (t : Option Timed). t >>= call_after r) none
+call-here : (old : Reader) (r : Read) (xs : List ℕ) → HasCall old r xs → line_after r xs ≡ (line_at xs >>= call_after r)
+call-here old r xs has =
+    line-call r xs (has.1, subst (λ n. n < most_lines) has.0.lines has.2, has.4) (subst (λ (n : Next). is_calls n ≡ true) has.0.next has.3)
 
-pub call-early : (old : Reader) (r : Read) (xs : List ℕ) (t : Timed) → Shows old r → length xs ≤ most_bytes → old.lines < most_lines → is_calls old.header.next ≡ true
-    → line_at xs ≡ Some t → t.time < old.time → line_after r xs ≡ None
-call-early old r xs t shows short few calls some early =
-    call-here old r xs shows short few calls ∙ ap (λ (x : Option Timed). x >>= call_after r) some
-    ∙ rw (lt-ltb t.time r.time (subst (λ n. t.time < n) shows.time early)) refl
+pub call-none : (old : Reader) (r : Read) (xs : List ℕ) → HasCall old r xs → line_at xs ≡ None → line_after r xs ≡ None
+call-none old r xs has none = call-here old r xs has ∙ ap (λ (t : Option Timed). t >>= call_after r) none
+
+pub call-early : (old : Reader) (r : Read) (xs : List ℕ) (t : Timed) → HasCall old r xs → line_at xs ≡ Some t → t.time < old.time → line_after r xs ≡ None
+call-early old r xs t has some early =
+    call-here old r xs has ∙ ap (λ (x : Option Timed). x >>= call_after r) some
+    ∙ rw (lt-ltb t.time r.time (subst (λ n. t.time < n) has.0.time early)) refl
 
 -- the line of a call that was read
 pub record CallRead (new : Reader) (r : Read) (xs : List ℕ) (told : Told) : Type 0 where
@@ -279,21 +291,21 @@ pub record CallRead (new : Reader) (r : Read) (xs : List ℕ) (told : Told) : Ty
   pub shows : Shows new read
   pub begun : is_calls read.header.next ≡ true
 
-pub call-told : (old new : Reader) (r : Read) (xs : List ℕ) (t : Timed) → Shows old r → length xs ≤ most_bytes → old.lines < most_lines → is_calls old.header.next ≡ true
-    → line_at xs ≡ Some t → old.time ≤ t.time → new.header ≡ old.header → new.time ≡ t.time → new.lines ≡ old.lines + 1 → CallRead new r xs t.told
-call-told old new r xs t shows short few calls some later header time lines = record {
+pub call-told : (old new : Reader) (r : Read) (xs : List ℕ) (t : Timed) → HasCall old r xs → line_at xs ≡ Some t → old.time ≤ t.time
+    → new.header ≡ old.header → new.time ≡ t.time → new.lines ≡ old.lines + 1 → CallRead new r xs t.told
+call-told old new r xs t has some later header time lines = record {
   read = record r { time = t.time; lines = r.lines + 1; calls = with_told (r.lines + 1) r.calls t.told };
   is =
-      call-here old r xs shows short few calls ∙ ap (λ (x : Option Timed). x >>= call_after r) some
-      ∙ rw (le-ltb _ _ (subst (λ n. n ≤ t.time) shows.time later)) refl;
+      call-here old r xs has ∙ ap (λ (x : Option Timed). x >>= call_after r) some
+      ∙ rw (le-ltb _ _ (subst (λ n. n ≤ t.time) has.0.time later)) refl;
   calls = refl;
   shows = record {
-    next = ap (λ (h : Header). h.next) header ∙ shows.next;
-    setting = subst (λ (h : Header). KeepsSetting r.header.next r.header.setting h.setting) (sym header) shows.setting;
+    next = ap (λ (h : Header). h.next) header ∙ has.0.next;
+    setting = subst (λ (h : Header). KeepsSetting r.header.next r.header.setting h.setting) (sym header) has.0.setting;
     time = time;
-    lines = lines ∙ ap (λ n. n + 1) shows.lines;
+    lines = lines ∙ ap (λ n. n + 1) has.0.lines;
   };
-  begun = subst (λ (n : Next). is_calls n ≡ true) shows.next calls;
+  begun = subst (λ (n : Next). is_calls n ≡ true) has.0.next has.3;
 }
 
 pub judged-told : (new : Reader) (r : Read) (xs : List ℕ) (call : Call) → CallRead new r xs (Judged call) → Tells r xs (an_event.Call call) (Shows new)

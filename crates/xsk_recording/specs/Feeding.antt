@@ -119,13 +119,9 @@ IsFault (an_event.Call call) = ⊥
 IsFault an_event.Fault = Unit {0}
 
 -- a part of a line is kept, behind what was kept, unless it is too long
-abbrev pub IsKept : Reader → Reader → List ℕ → Event → Type 0
-IsKept old new part an_event.Begun = (new ≡ record old { begun = old.begun ++ part }) × (length old.begun + length part ≤ most_bytes)
-IsKept old new part an_event.Passed = ⊥
-IsKept old new part (an_event.Setting s) = ⊥
-IsKept old new part (an_event.NoSetting error) = ⊥
-IsKept old new part (an_event.Call call) = ⊥
-IsKept old new part an_event.Fault = most_bytes < length old.begun + length part
+abbrev pub IsKept : Reader → Reader → List ℕ → Bool → Type 0
+IsKept old new part true = (new ≡ record old { begun = old.begun ++ part }) × (length old.begun + length part ≤ most_bytes)
+IsKept old new part false = most_bytes < length old.begun + length part
 
 -- a header's setting is handed out, or why it is none
 abbrev pub IsHanded : Setting → Event → Type 0

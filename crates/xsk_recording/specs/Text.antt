@@ -1,6 +1,6 @@
 -- The text of a recording: the header's lines, and behind them the line of each call. A line has its line feed, and 2,048 bytes at most
 -- with it; times don't fall; there are fewer than 2^64 - 1 lines.
-use Rattle.std.specs.Prelude.{ℕ, ◌+◌, ◌-◌, ◌^◌, ◌&&◌, nat_le, nat_lt, if◌then◌else◌, Option, None, Some, List, [], ◌∷◌, length}
+use Rattle.std.specs.Prelude.{ℕ, ◌+◌, ◌-◌, ◌^◌, ◌&&◌, nat_le, nat_lt, if◌then◌else◌, Option, None, Some, List, [], ◌∷◌, length, ◌==◌, Bool, false}
 use Rattle.xsk_side.specs.declared.call.Call.{Call}
 use Rattle.xsk_lines.specs.Reading.{◌>>=◌}
 use Rattle.xsk_recording.specs.Line.{line_at}
@@ -58,9 +58,15 @@ most_bytes = 2048
 abbrev pub most_lines : ℕ
 most_lines = 2 ^ 64 - 2
 
+-- a line feed stands at its end
+unfoldable pub ends_line : List ℕ → Bool
+ends_line [] = false
+ends_line (b ∷ []) = b == 10
+ends_line (b ∷ c ∷ bs) = ends_line (c ∷ bs)
+
 -- one line more, and some; nothing where a line isn't of the form
 unfoldable pub line_after : Read → List ℕ → Option Read
-line_after r xs = if nat_le (length xs) most_bytes && nat_lt r.lines most_lines then body_after r.header.next r xs else None
+line_after r xs = if nat_le (length xs) most_bytes && nat_lt r.lines most_lines && ends_line xs then body_after r.header.next r xs else None
 
 unfoldable pub lines_after : Read → List (List ℕ) → Option Read
 lines_after r [] = Some r

@@ -1,10 +1,12 @@
 //! A recording, read in pieces.
-ghost use Rattle.std.specs.Prelude.{◌≡◌, ◌≢◌, ◌≤◌, ◌<◌, ◌++◌, ◌⊎◌, [], ℕ, List, IfOk, length, true, false};
-ghost use Rattle.xsk_recording.specs.Text.{Read, nothing_read, most_bytes, most_lines};
+ghost use Rattle.std.specs.Prelude.{◌≡◌, ◌≢◌, ◌≤◌, ◌<◌, ◌==◌, ◌+◌, ◌++◌, ◌⊎◌, if◌then◌else◌, [], ℕ, List, IfOk, length, true, false};
+ghost use Rattle.xsk_recording.specs.Text.{Read, nothing_read, most_bytes, most_lines, ends_line};
 ghost use Rattle.xsk_recording.specs.Feeding.{Shows, Tells, StandsFor, IsNext, IsKept, IsFault, IsHanded, is_calls};
+ghost use Rattle.xsk_recording.specs.Verdict.{IsSound, IsVerdict};
 
 use crate::head::{Head, Next};
 use crate::line::{Timed, Told, line};
+use crate::verdict::Verdict;
 use memchr::memchr;
 use std::alloc::Global;
 use std::marker::Model;
@@ -89,6 +91,31 @@ impl Reading {
         matches!(self.head.next(), Next::Calls)
     }
 
+    /// The verdict at the end of a text, of which so many calls were read, and each was found possible after those before it.
+    pub fn verdict(&self, calls: u64) -> Verdict
+        ensures { (text : List ℕ) (r : Read) → StandsFor self.now text r → calls ≡ length r.calls → IsSound r.header.next r → IsVerdict text result }
+    {
+        if !self.begun.is_empty() {
+            return self.missing();
+        }
+        if self.is_begun() {
+            return called(calls);
+        }
+        if self.lines == 0 {
+            return Verdict::Empty;
+        }
+        self.missing()
+    }
+
+    /// The next line isn't of the form, or isn't there.
+    fn missing(&self) -> Verdict
+        ensures { result ≡ Verdict.NoRecording (self.now.lines + 1) }
+    {
+        Verdict::NoRecording {
+            line: self.lines + 1,
+        }
+    }
+
     /// Takes back the memory of a call.
     pub fn give_back(&mut self, call: Call)
         ensures { self.new ≡ self.old }
@@ -106,38 +133,36 @@ impl Reading {
         ensures told { IfOk result (λ told. (text : List ℕ) (r : Read) → StandsFor self.old text r → IsNext self.old self.new text r piece.now told.0 told.1.now) }
         ensures shorter { IfOk result (λ told. length told.1.now < length piece.now) }
     {
-        match memchr(b'\n', piece) {
-            Some(end) => {
-                let event = self.end(&piece[..end + 1])?;
-                Ok((event, &piece[end + 1..]))
-            }
-            None => {
-                let event = self.begin(piece)?;
-                Ok((event, &piece[piece.len()..]))
-            }
-        }
+        let Some(end) = memchr(b'\n', piece) else {
+            let kept = self.keep(piece)?;
+            let event = if kept { Event::Begun } else { Event::Fault };
+            return Ok((event, &piece[piece.len()..]));
+        };
+        let event = self.end(&piece[..end + 1])?;
+        Ok((event, &piece[end + 1..]))
     }
 
-    /// Keeps a part of a line.
-    fn begin(&mut self, part: &[u8]) -> Result<Event, OutOfMemory>
-        ensures { IfOk result (λ event. IsKept self.old self.new part.now event) }
+    /// Keeps a part of a line, and tells whether the line isn't too long.
+    fn keep(&mut self, part: &[u8]) -> Result<bool, OutOfMemory>
+        ensures { IfOk result (λ kept. IsKept self.old self.new part.now kept) }
     {
         if part.len() > MOST_BYTES || self.begun.len() > MOST_BYTES - part.len() {
-            return Ok(Event::Fault);
+            return Ok(false);
         }
         self.begun.extend_from_slice(part)?;
-        Ok(Event::Begun)
+        Ok(true)
     }
 
     /// Reads a line of which this is the last part.
     fn end(&mut self, part: &[u8]) -> Result<Event, OutOfMemory>
+        requires { ends_line part.now ≡ true }
         ensures told { IfOk result (λ event. (r : Read) → Shows self.old r → Tells r (self.old.begun ++ part.now) event (Shows self.new)) }
         ensures empty { IfOk result (λ event. IsFault event ⊎ (self.new.begun ≡ [])) }
     {
         if self.begun.is_empty() {
             return self.read_line(part);
         }
-        if let Event::Fault = self.begin(part)? {
+        if !self.keep(part)? {
             return Ok(Event::Fault);
         }
         let begun = mem::replace(&mut self.begun, Vec::new(self.alloc));
@@ -149,6 +174,7 @@ impl Reading {
 
     /// Reads a whole line.
     fn read_line(&mut self, text: &[u8]) -> Result<Event, OutOfMemory>
+        requires { ends_line text.now ≡ true }
         ensures told { IfOk result (λ event. (r : Read) → Shows self.old r → Tells r text.now event (Shows self.new)) }
         ensures begun { self.new.begun ≡ self.old.begun }
     {
@@ -168,6 +194,7 @@ impl Reading {
     fn read_header(&mut self, text: &[u8]) -> Result<Event, OutOfMemory>
         requires short { length text.now ≤ most_bytes }
         requires few { self.old.lines < most_lines }
+        requires whole { ends_line text.now ≡ true }
         requires header { is_calls self.old.header.next ≡ false }
         ensures told { IfOk result (λ event. (r : Read) → Shows self.old r → Tells r text.now event (Shows self.new)) }
         ensures begun { self.new.begun ≡ self.old.begun }
@@ -200,6 +227,7 @@ impl Reading {
     fn read_call(&mut self, text: &[u8]) -> Result<Event, OutOfMemory>
         requires short { length text.now ≤ most_bytes }
         requires few { self.old.lines < most_lines }
+        requires whole { ends_line text.now ≡ true }
         requires calls { is_calls self.old.header.next ≡ true }
         ensures told { IfOk result (λ event. (r : Read) → Shows self.old r → Tells r text.now event (Shows self.new)) }
         ensures begun { self.new.begun ≡ self.old.begun }
@@ -218,4 +246,14 @@ impl Reading {
             Told::Aside => Event::Passed,
         })
     }
+}
+
+/// The verdict of so many calls that are possible.
+fn called(calls: u64) -> Verdict
+    ensures { result ≡ (if calls == 0 then Verdict.NoCalls else Verdict.Possible calls) }
+{
+    if calls == 0 {
+        return Verdict::NoCalls;
+    }
+    Verdict::Possible { calls }
 }
