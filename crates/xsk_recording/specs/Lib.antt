@@ -6,3 +6,4 @@ pub mod Text
 pub mod Feeding
 pub mod Readers
 pub mod Verdict
+pub mod Laws
