@@ -21,7 +21,7 @@ sums_of_files() (
     cd -- "$1" || exit
     shift
     rows=$(IFS='|' && echo "$*")
-    grep -E "^($rows):" crates.txt
+    grep -E "^($rows):" crates.txt | LC_ALL=C sort
     folders=()
     for part in src specs proofs; do
         for crate; do
