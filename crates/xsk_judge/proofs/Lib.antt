@@ -1,0 +1,5 @@
+pub mod Marking
+pub mod Coming
+pub mod Agreeing
+pub mod Standing
+pub mod Behind
