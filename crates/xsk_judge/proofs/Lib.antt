@@ -3,3 +3,4 @@ pub mod Coming
 pub mod Agreeing
 pub mod Standing
 pub mod Behind
+pub mod Showing

@@ -144,7 +144,7 @@ shown_queue queue entries = record queue { entries = queue.entries ++ new_of (st
 abbrev pub shown_frames : Setting → ℕ → Ring → Queue → List Known → List XdpDesc → List Known
 shown_frames s line r queue frames entries =
     marked s (peeked r queue.first line) queue.held (take (length (standing queue)) entries)
-      (marked s (peeked r queue.first line) (queue.held + length (standing queue)) (new_of (standing queue) entries) frames)
+      (marked s (peeked r queue.first line) (queue.held + length (take (length (standing queue)) entries)) (new_of (standing queue) entries) frames)
 
 abbrev pub strays_after : Setting → Kept → Ring → List XdpDesc → List ℕ
 strays_after s kept (Fill d) entries = kept.strays
@@ -187,6 +187,36 @@ after s line kept (Cancel r n) =
 abbrev pub IsTooMany : Setting → Kept → Call → Type 0
 IsTooMany s kept (Submit (Tx k) entries) = 2 ^ 64 ≤ strays_at kept (pair_of s (Tx k)) + strays_in s entries
 IsTooMany s kept call = ⊥
+
+-- entries that come, from the one of this number on
+abbrev pub HasStrays : Setting → Kept → Ring → List XdpDesc → Type 0
+HasStrays s kept (Fill d) entries = Unit {0}
+HasStrays s kept (Comp d) entries = strays_in s entries ≤ strays_at kept d
+HasStrays s kept (Rx k) entries = Unit {0}
+HasStrays s kept (Tx k) entries = Unit {0}
+
+abbrev pub CanCome : Setting → Kept → Ring → List XdpDesc → Type 0
+CanCome s kept r entries = AreNew s kept.frames r entries × HasStrays s kept r entries
+
+abbrev pub strays_come : Setting → Kept → Ring → List XdpDesc → List ℕ
+strays_come s kept (Fill d) entries = kept.strays
+strays_come s kept (Comp d) entries = slice_set kept.strays d (strays_at kept d - strays_in s entries)
+strays_come s kept (Rx k) entries = kept.strays
+strays_come s kept (Tx k) entries = kept.strays
+
+abbrev pub come_after : Setting → ℕ → Kept → Ring → ℕ → ℕ → List XdpDesc → Kept
+come_after s line kept r first at entries =
+    record kept { frames = marked s (peeked r first line) at entries kept.frames; strays = strays_come s kept r entries }
+
+-- entries are held: such as stood there before, and new ones
+abbrev pub held_after : Setting → ℕ → Kept → Ring → List XdpDesc → List XdpDesc → Kept
+held_after s line kept r known new = record kept {
+  frames = marked s (peeked r (queue_at s kept r).first line) (queue_at s kept r).held known kept.frames;
+  queues = slice_set kept.queues (place s r) (record (queue_at s kept r) {
+    entries = (queue_at s kept r).entries ++ new;
+    held = (queue_at s kept r).held + (length known + length new);
+  });
+}
 
 -- ---- why not
 

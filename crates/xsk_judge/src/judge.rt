@@ -1,11 +1,11 @@
 //! The judge, call by call.
-ghost use Rattle.std.specs.Prelude.{◌≡◌, ◌+◌, ◌-◌, ◌<◌, ◌≤◌, ◌↔◌, ℕ, min, IfOk, IfErr, IfSome, IsNone, IsTrue, false, length, take};
+ghost use Rattle.std.specs.Prelude.{◌≡◌, ◌+◌, ◌-◌, ◌^◌, ◌<◌, ◌≤◌, ◌↔◌, ◌⊎◌, ℕ, min, [], IfOk, IfErr, IfSome, IsNone, IsTrue, false, length, take};
 ghost use Rattle.xsk_side.specs.Setting.{HasRing};
 ghost use Rattle.xsk_side.specs.Object.{is_made as made};
 ghost use Rattle.xsk_side.specs.Local.{FitsAnswer};
 ghost use Rattle.xsk_side.specs.declared.call.Call.TheVariants.{Reserve, Free, Submit, Peek, Release, Cancel};
-ghost use Rattle.xsk_judge.specs.Kept.{place, standing};
-ghost use Rattle.xsk_judge.specs.Judging.{IsFor, IsRule, IsDenial, IsReason, MayCall, MayAnswer, Agrees, after, reserved, told_free};
+ghost use Rattle.xsk_judge.specs.Kept.{place, queue_at, standing};
+ghost use Rattle.xsk_judge.specs.Judging.{IsFor, IsRule, IsDenial, IsReason, MayCall, MayAnswer, Agrees, CanCome, after, come_after, held_after, reserved, told_free};
 
 use crate::known::{End, Known, Place};
 use crate::marks;
@@ -166,27 +166,63 @@ impl Judge {
             Err(why) => return Err(why),
         };
         let (known, new) = entries.split_at(again as usize);
-        let first = self.queues[at].numbered(0);
+        let first = self.queues[at].first();
         let held = self.queues[at].held();
+        if let Err(why) = self.come(setting, line, ring, first, held + again, known.len(), new) {
+            return Err(why);
+        }
+        self.hold(setting, line, ring, at, known, new);
+        Ok(())
+    }
+
+    /// The program holds entries that stood in the ring before, and new ones.
+    fn hold(&mut self, setting: &Setting, line: u64, ring: Ring, at: usize, known: &[XdpDesc], new: &[XdpDesc])
+        requires size { length self.old.frames ≡ setting.now.geometry.frames }
+        requires place { (at ≡ place setting.now ring) × (at < length self.old.queues) }
+        requires standing { (queue_at setting.now self.old ring).held + length known.now ≤ length (queue_at setting.now self.old ring).entries }
+        requires all { new.now ≡ [] ⊎ ((queue_at setting.now self.old ring).held + length known.now ≡ length (queue_at setting.now self.old ring).entries) }
+        requires room { length (queue_at setting.now self.old ring).entries + length new.now ≤ (queue_at setting.now self.old ring).size }
+        ensures { self.new ≡ held_after setting.now line self.old ring known.now new.now }
+    {
+        let first = self.queues[at].first();
+        let held = self.queues[at].held();
+        marks::show(self.frames.as_mut_slice(), setting, line, ring, first, held, known);
+        self.queues[at].show(known.len() as u32, new);
+    }
+
+    /// Entries come on a ring that the kernel produces, from the one of this number on, behind so many that stood there.
+    #[allow(clippy::too_many_arguments)]
+    fn come(
+        &mut self,
+        setting: &Setting,
+        line: u64,
+        ring: Ring,
+        first: u32,
+        at: u32,
+        skipped: usize,
+        entries: &[XdpDesc],
+    ) -> Result<(), Why>
+        requires kind { IsFor setting.now self.old }
+        requires ring { HasRing setting.now ring }
+        requires side { made ring ≡ false }
+        requires few { at + length entries.now < 2 ^ 32 }
+        requires counted { skipped + length entries.now < 2 ^ 32 }
+        ensures ok { IfOk result (λ _. CanCome setting.now self.old ring entries.now × (self.new ≡ come_after setting.now line self.old ring first at entries.now)) }
+        ensures denied { IfErr result (λ why. IsDenial why × (CanCome setting.now self.old ring entries.now → ⊥)) }
+    {
         let frames = self.frames.as_mut_slice();
         match ring {
-            Ring::Rx(socket) => {
-                if let Err(why) = marks::receive(frames, setting, line, socket, first, held + again, known.len(), new) {
-                    return Err(why);
-                }
-            }
+            Ring::Rx(socket) => marks::receive(frames, setting, line, socket, first, at, skipped, entries),
             Ring::Comp(pair) => {
                 let strays = self.strays[pair as usize];
-                match marks::complete(frames, setting, line, pair, first, held + again, known.len(), strays, new) {
+                match marks::complete(frames, setting, line, pair, first, at, skipped, strays, entries) {
                     Ok(left) => self.strays[pair as usize] = left,
                     Err(why) => return Err(why),
                 }
+                Ok(())
             }
             Ring::Fill(_) | Ring::Tx(_) => unreachable!(),
         }
-        marks::show(self.frames.as_mut_slice(), setting, line, ring, first, held, known);
-        self.queues[at].show(again, new);
-        Ok(())
     }
 
     fn release(&mut self, setting: &Setting, ring: Ring, count: u32) -> Result<(), Why>

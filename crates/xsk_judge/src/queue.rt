@@ -73,6 +73,13 @@ impl Queue {
         self.again
     }
 
+    /// The number of the first entry.
+    pub(crate) fn first(&self) -> u32
+        ensures { result ≡ self.now.first }
+    {
+        self.first
+    }
+
     /// The number of an entry.
     pub(crate) fn numbered(&self, i: u32) -> u32
         ensures { result ≡ numbered self.now.first i }
