@@ -139,7 +139,7 @@ sure_behind s kept lines line call ends r for now h has made =
       (same_or r q)
 
 -- behind a call on another kind of ring
-unlike : (r q : Ring) → is_made r ≡ true → is_made q ≡ false → is_ring r q ≡ false
+pub unlike : (r q : Ring) → is_made r ≡ true → is_made q ≡ false → is_ring r q ≡ false
 unlike (Fill d) (Comp e) m n = refl
 unlike (Fill d) (Rx e) m n = refl
 unlike (Tx d) (Comp e) m n = refl
@@ -178,13 +178,13 @@ known_same s lines line call f known h a b c = record {
   since = h.since ∙ sym (is_false (moves s f (calls_of lines) call) line (since_of s f lines) c);
 }
 
-none_stands : (s : Setting) (f : ℕ) (es : List XdpDesc) → times s f es ≡ 0 → stands s f es ≡ false
+pub none_stands : (s : Setting) (f : ℕ) (es : List XdpDesc) → times s f es ≡ 0 → stands s f es ≡ false
 none_stands s f es h = no_test (times s f es) h
   where
     no_test : (t : ℕ) → t ≡ 0 → nat_lt 0 t ≡ false
     no_test t h = grind (arith, nat_tests, h)
 
-one_stands : (s : Setting) (f : ℕ) (es : List XdpDesc) → 1 ≤ times s f es → stands s f es ≡ true
+pub one_stands : (s : Setting) (f : ℕ) (es : List XdpDesc) → 1 ≤ times s f es → stands s f es ≡ true
 one_stands s f es h = a_test (times s f es) h
   where
     a_test : (t : ℕ) → 1 ≤ t → nat_lt 0 t ≡ true
@@ -265,13 +265,13 @@ known_cancel s kept lines line r n f for now low given =
 
 -- ---- the frames of held entries
 
-facts : (s : Setting) (calls : List Call) (f : ℕ) → Possible s calls → IsFresh (number (has_frame s f calls)) (λ r. times_fresh s f (held_of s r calls))
+pub facts : (s : Setting) (calls : List Call) (f : ℕ) → Possible s calls → IsFresh (number (has_frame s f calls)) (λ r. times_fresh s f (held_of s r calls))
 facts s calls f possible =
     subst (λ mine. IsFresh (number (has_frame s f mine)) (λ r. times_fresh s f (held_of s r mine))) possible.own
       (frames_sound s possible.history f possible.legal).fresh
 
 -- where no held entry of the frame is untouched, this one isn't
-touched_all : (s : Setting) (held : List Held) (i : ℕ) (h : Held) → i < length held → IsTrue (is_inside s.geometry (get_or held i h).entry)
+pub touched_all : (s : Setting) (held : List Held) (i : ℕ) (h : Held) → i < length held → IsTrue (is_inside s.geometry (get_or held i h).entry)
     → times_fresh s (frame s (get_or held i h).entry) held ≡ 0 → (get_or held i h).untouched ≡ false
 touched_all s [] i h low inside none = absurd (omega (arith, low))
 touched_all s (x ∷ held) zero h low inside none = off x.untouched (is_inside s.geometry x.entry) (frame s x.entry) inside (omega (arith, none))
@@ -281,14 +281,14 @@ touched_all s (x ∷ held) zero h low inside none = off x.untouched (is_inside s
 touched_all s (x ∷ held) (suc i) h low inside none = touched_all s held i h (omega (arith, low)) inside (omega (arith, none))
 
 -- an entry outside of the UMEM is untouched for ever, and so it is kept
-latest_outside : (s : Setting) (frames : List Known) (r : Ring) (i : ℕ) (e : XdpDesc) → is_inside s.geometry e ≡ false → is_latest s frames r i e ≡ true
+pub latest_outside : (s : Setting) (frames : List Known) (r : Ring) (i : ℕ) (e : XdpDesc) → is_inside s.geometry e ≡ false → is_latest s frames r i e ≡ true
 latest_outside s frames r i e h = ap (λ b. not b || is_as r i (known_in frames (frame s e)).place) h
 
-latest_inside : (s : Setting) (frames : List Known) (r : Ring) (i : ℕ) (e : XdpDesc) → is_inside s.geometry e ≡ true → is_latest s frames r i e ≡ is_as r i (known_in frames (frame s e)).place
+pub latest_inside : (s : Setting) (frames : List Known) (r : Ring) (i : ℕ) (e : XdpDesc) → is_inside s.geometry e ≡ true → is_latest s frames r i e ≡ is_as r i (known_in frames (frame s e)).place
 latest_inside s frames r i e h = ap (λ b. not b || is_as r i (known_in frames (frame s e)).place) h
 
 -- whose frame is kept as before
-latest_same : (s : Setting) (frames frames' : List Known) (r : Ring) (i : ℕ) (e : XdpDesc) → (is_inside s.geometry e ≡ true → known_in frames' (frame s e) ≡ known_in frames (frame s e))
+pub latest_same : (s : Setting) (frames frames' : List Known) (r : Ring) (i : ℕ) (e : XdpDesc) → (is_inside s.geometry e ≡ true → known_in frames' (frame s e) ≡ known_in frames (frame s e))
     → is_latest s frames' r i e ≡ is_latest s frames r i e
 latest_same s frames frames' r i e same = ⊎_elim
     (λ (inside : is_inside s.geometry e ≡ true). ap (λ (k : Known). not (is_inside s.geometry e) || is_as r i k.place) (same inside))
@@ -296,7 +296,7 @@ latest_same s frames frames' r i e same = ⊎_elim
     (cases_Bool (is_inside s.geometry e))
 
 -- an untouched one behind a Submit
-latest_submit : (s : Setting) (frames : List Known) (line : ℕ) (q r : Ring) (es : List XdpDesc) (i : ℕ) (h : Held) → length frames ≡ s.geometry.frames
+pub latest_submit : (s : Setting) (frames : List Known) (line : ℕ) (q r : Ring) (es : List XdpDesc) (i : ℕ) (h : Held) → length frames ≡ s.geometry.frames
     → is_latest s frames r i h.entry ≡ h.untouched → is_latest s (marked s (given q line) 0 es frames) r i h.entry ≡ (touch s es h).untouched
 latest_submit s frames line q r es i h size is = ⊎_elim
     (λ (inside : is_inside s.geometry h.entry ≡ true).
@@ -325,6 +325,6 @@ latest_submit s frames line q r es i h size is = ⊎_elim
     out u a b h = grind (arith, h)
 
 -- one of which the frame is kept as another's, or given or put back
-latest_off : (s : Setting) (frames : List Known) (r : Ring) (i : ℕ) (e : XdpDesc) (u : Bool) → is_inside s.geometry e ≡ true → is_as r i (known_in frames (frame s e)).place ≡ false → u ≡ false
+pub latest_off : (s : Setting) (frames : List Known) (r : Ring) (i : ℕ) (e : XdpDesc) (u : Bool) → is_inside s.geometry e ≡ true → is_as r i (known_in frames (frame s e)).place ≡ false → u ≡ false
     → is_latest s frames r i e ≡ u
 latest_off s frames r i e u inside off untrue = latest_inside s frames r i e inside ∙ off ∙ sym untrue

@@ -30,16 +30,39 @@ named_below s f (e ∷ es) some = ⊎_elim
     (number_cases (names s f e))
 
 pub marked-one : (s : Setting) (known : ℕ → Known) (i : ℕ) (es : List XdpDesc) (frames : List Known) (f : ℕ) → f < length frames → 1 ≤ times s f es
-    → (j : ℕ) × (known_in (marked s known i es frames) f ≡ known j)
+    → (j : ℕ) × (known_in (marked s known i es frames) f ≡ known j) × (i ≤ j) × (j < i + length es)
 marked-one s known i [] frames f low some = absurd (omega (arith, some))
 marked-one s known i (e ∷ es) frames f low some = ⊎_elim
-    (λ (later : 1 ≤ times s f es). marked-one s known (i + 1) es (set_known s frames e (known i)) f (omega (arith, low, length-set_known s frames e (known i))) later)
+    (λ (later : 1 ≤ times s f es).
+      let found = marked-one s known (i + 1) es (set_known s frames e (known i)) f (omega (arith, low, length-set_known s frames e (known i))) later in
+      (found.0, found.1, omega (arith, found.2), omega (arith, found.3)))
     (λ (none : times s f es ≡ 0). ⊎_elim
       (λ (off : ◌≡◌ {A = ℕ} (number (names s f e)) 0). absurd (omega (arith, some, none, off)))
       (λ (one : ◌≡◌ {A = ℕ} (number (names s f e)) 1).
-        (i, marked-none s known (i + 1) es (set_known s frames e (known i)) f none ∙ known-here s frames e (known i) f low one))
+        (i, marked-none s known (i + 1) es (set_known s frames e (known i)) f none ∙ known-here s frames e (known i) f low one, omega arith, omega arith))
       (number_cases (names s f e)))
     (some_or_none (times s f es))
+
+-- the one entry that names the frame
+pub marked-exact : (s : Setting) (known : ℕ → Known) (i : ℕ) (es : List XdpDesc) (frames : List Known) (k : ℕ) (d : XdpDesc) → length frames ≡ s.geometry.frames → k < length es
+    → is_inside s.geometry (get_or es k d) ≡ true → times s (frame s (get_or es k d)) es ≤ 1 → known_in (marked s known i es frames) (frame s (get_or es k d)) ≡ known (i + k)
+marked-exact s known i [] frames k d size low inside once = absurd (omega (arith, low))
+marked-exact s known i (e ∷ es) frames zero d size low inside once =
+    let one : ◌≡◌ {A = ℕ} (number (names s (frame s e) e)) 1 = its_own (is_inside s.geometry e) (frame s e) inside in
+    marked-none s known (i + 1) es (set_known s frames e (known i)) (frame s e) (omega (arith, once, one))
+    ∙ known-here s frames e (known i) (frame s e) (omega (arith, size, inside_below s e inside)) one
+    ∙ ap known (same i)
+  where
+    its_own : (a : Bool) (x : ℕ) → a ≡ true → ◌≡◌ {A = ℕ} (number (a && eqb x x)) 1
+    its_own a x h = grind (arith, nat_tests, h)
+    same : (i : ℕ) → i ≡ i + 0
+    same i = omega arith
+marked-exact s known i (e ∷ es) frames (suc k) d size low inside once =
+    marked-exact s known (i + 1) es (set_known s frames e (known i)) k d (length-set_known s frames e (known i) ∙ size) (omega (arith, low)) inside (omega (arith, once))
+    ∙ ap known (next i k)
+  where
+    next : (i k : ℕ) → i + 1 + k ≡ i + suc k
+    next i k = omega arith
 
 -- what is given still wasn't shown
 pub still_given : (s : Setting) (r : Ring) (first line i : ℕ) (es : List XdpDesc) (frames : List Known) (f : ℕ) (q : Ring) → length frames ≡ s.geometry.frames

@@ -4,3 +4,5 @@ pub mod Agreeing
 pub mod Standing
 pub mod Behind
 pub mod Showing
+pub mod Stepping
+pub mod Peeking

@@ -165,7 +165,7 @@ most_is s kept lines r now has made = ap (λ k. size_of s r - k) (now.room r has
 given_is : (s : Setting) (kept : Kept) (lines : List Line) (f : ℕ) → StandsFor s kept lines → f < s.geometry.frames → given_in kept.frames f ≡ given_of s (calls_of lines) f
 given_is s kept lines f now low = (now.frames f low).given
 
-standing_is : (s : Setting) (calls : List Call) (frames : List Known) (r : Ring) (queue : Queue) → IsQueue s calls frames r queue → standing queue ≡ back_of s r calls
+pub standing_is : (s : Setting) (calls : List Call) (frames : List Known) (r : Ring) (queue : Queue) → IsQueue s calls frames r queue → standing queue ≡ back_of s r calls
 standing_is s calls frames r queue is =
     ap (drop queue.held) is.entries
     ∙ drop_at (map entry_of (held_of s r calls)) (back_of s r calls) queue.held (length-map (held_of s r calls) entry_of ∙ sym is.held)
@@ -176,11 +176,11 @@ pair_below s r d is has = subst (λ x. HasRing s x → pair_of s x < length s.pa
 -- the same in other words
 come_as : (s : Setting) (from from' : ℕ → Option Ring) (strays strays' : ℕ) (r : Ring) (es : List XdpDesc) → ((d : ℕ) → r ≡ Comp d → strays ≡ strays')
     → ((f : ℕ) (q : Ring) → 1 ≤ times s f es → from f ≡ Some q → from' f ≡ Some q) → MayCome s from strays r es → MayCome s from' strays' r es
-come_as s from from' strays strays' (Fill d) es same as h = tt
-come_as s from from' strays strays' (Comp d) es same as h =
-    subst (λ k. MayCome s from' k (Comp d) es) (same d refl) (comes_as s from from' strays (Comp d) es as h)
-come_as s from from' strays strays' (Rx k) es same as h = comes_as s from from' strays (Rx k) es as h
-come_as s from from' strays strays' (Tx k) es same as h = tt
+come_as s from from' strays strays' (Fill d) es same also h = tt
+come_as s from from' strays strays' (Comp d) es same also h =
+    subst (λ k. MayCome s from' k (Comp d) es) (same d refl) (comes_as s from from' strays (Comp d) es also h)
+come_as s from from' strays strays' (Rx k) es same also h = comes_as s from from' strays (Rx k) es also h
+come_as s from from' strays strays' (Tx k) es same also h = tt
 
 fits_as : (s : Setting) (r : Ring) (back back' : List XdpDesc) (held held' : ℕ) (from from' : ℕ → Option Ring) (strays strays' n : ℕ) (es : List XdpDesc) → back ≡ back' → held ≡ held'
     → ((f : ℕ) → f < s.geometry.frames → from f ≡ from' f) → ((d : ℕ) → r ≡ Comp d → strays ≡ strays')

@@ -227,7 +227,7 @@ impl Judge {
 
     fn release(&mut self, setting: &Setting, ring: Ring, count: u32) -> Result<(), Why>
         requires { IsFor setting.now self.old }
-        ensures ok { IfOk result (λ _. (line : ℕ) → MayCall setting.now self.old (Release ring count) × MayAnswer setting.now self.old (Release ring count) × (self.new ≡ after setting.now line self.old (Release ring count))) }
+        ensures ok { IfOk result (λ _. MayCall setting.now self.old (Release ring count) × MayAnswer setting.now self.old (Release ring count) × (self.new ≡ after setting.now 0 self.old (Release ring count))) }
         ensures why { IfErr result (λ why. IsReason setting.now self.old (Release ring count) why) }
     {
         let at = match self.queue_place(setting, ring) {
