@@ -6,3 +6,4 @@ pub mod Behind
 pub mod Showing
 pub mod Stepping
 pub mod Peeking
+pub mod Standings

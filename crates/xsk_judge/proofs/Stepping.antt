@@ -33,7 +33,7 @@ use Rattle.xsk_judge.proofs.Behind.{IsEnd, more, known_same, known_submit, known
 -- ---- queues that a call leaves
 
 -- neither held entries nor those that stand again change, nor the frames
-queue_plain : (s : Setting) (calls : List Call) (frames : List Known) (q : Ring) (queue : Queue) (call : Call) → held_of s q (call ∷ calls) ≡ held_of s q calls
+pub queue_plain : (s : Setting) (calls : List Call) (frames : List Known) (q : Ring) (queue : Queue) (call : Call) → held_of s q (call ∷ calls) ≡ held_of s q calls
     → back_of s q (call ∷ calls) ≡ back_of s q calls → IsQueue s calls frames q queue → IsQueue s (call ∷ calls) frames q queue
 queue_plain s calls frames q queue call h b is = record {
   entries = is.entries ∙ ap (λ xs. map entry_of xs ++ back_of s q calls) (sym h) ∙ ap (λ xs. map entry_of (held_of s q (call ∷ calls)) ++ xs) (sym b);
