@@ -7,3 +7,5 @@ pub mod Showing
 pub mod Stepping
 pub mod Peeking
 pub mod Standings
+pub mod Ready
+pub mod Beginning

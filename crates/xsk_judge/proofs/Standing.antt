@@ -31,7 +31,7 @@ use Rattle.xsk_judge.specs.Judging.{IsFor, AreMine, AreLatest, MayGiveUp, MayCal
 use Rattle.xsk_judge.specs.Stands.{Line, calls_of, IsKnown, IsQueue, StandsFor}
 use Rattle.xsk_judge.proofs.Coming.{named_below}
 
-shown_by : (r : Ring) → is_made r ≡ false → Program ≡ consumer r
+pub shown_by : (r : Ring) → is_made r ≡ false → Program ≡ consumer r
 shown_by (Fill d) h = absurd (cc)
 shown_by (Comp d) h = refl
 shown_by (Rx k) h = refl

@@ -29,6 +29,14 @@ use Rattle.xsk_judge.specs.Kept.{Queue, Kept, is_mine, given_by, is_as, numbered
 abbrev pub given_in : List Known → ℕ → Option Ring
 given_in frames f = given_by (known_in frames f).place
 
+pub record IsSized (s : Setting) (kept : Kept) : Type 0 where
+  pub frames : length kept.frames ≡ s.geometry.frames
+  pub ends : length kept.ends ≡ length s.pairs + length s.sockets
+  pub queues : length kept.queues ≡ length s.pairs + length s.sockets
+  pub strays : length kept.strays ≡ length s.pairs
+  pub size : (r : Ring) → HasRing s r → is_made r ≡ false → (queue_at s kept r).size ≡ size_of s r
+
+-- and what is kept is within them
 pub record IsFor (s : Setting) (kept : Kept) : Type 0 where
   pub frames : length kept.frames ≡ s.geometry.frames
   pub ends : length kept.ends ≡ length s.pairs + length s.sockets

@@ -1,10 +1,11 @@
 -- The calls for which a judge stands: they are possible, and what it keeps is what they leave. Lists have the latest call first.
-use Rattle.std.specs.Prelude.{◌≡◌, ℕ, ◌<◌, ◌≤◌, nat_lt, Bool, true, false, IsTrue, if◌then◌else◌, List, [], ◌∷◌, ◌++◌, length, map}
+use Rattle.std.specs.Prelude.{◌≡◌, ℕ, ◌+◌, ◌^◌, ◌<◌, ◌≤◌, nat_lt, Bool, true, false, IsTrue, if◌then◌else◌, List, [], ◌∷◌, ◌++◌, length, map}
 use Rattle.std.specs.List.{slice_index_or}
 use Rattle.xsk_umem.specs.declared.batch.XdpDesc.{XdpDesc}
 use Rattle.xsk_model.specs.declared.call.Ring.{Ring}
-use Rattle.xsk_side.specs.Setting.{Setting, HasRing}
-use Rattle.xsk_side.specs.Entries.{stands}
+use Rattle.xsk_model.specs.declared.call.Ring.TheVariants.{Tx}
+use Rattle.xsk_side.specs.Setting.{Setting, HasRing, pair_of}
+use Rattle.xsk_side.specs.Entries.{stands, strays_in}
 use Rattle.xsk_side.specs.Object.{is_made}
 use Rattle.xsk_side.specs.Own.{Held, entry_of, room_of, held_of, put_back, has_frame}
 use Rattle.xsk_side.specs.Legal.{IsLegal}
@@ -14,8 +15,10 @@ use Rattle.xsk_side.specs.declared.call.Party.TheVariants.{Program}
 use Rattle.xsk_side.specs.declared.call.Call.{Call}
 use Rattle.xsk_side.specs.declared.call.Call.TheVariants.{Reserve, Free, Submit, Peek, Release, Cancel}
 use Rattle.xsk_judge.specs.Kept.{Queue, Kept, is_mine, given_by, numbered, known_in, end_at, queue_at, strays_at}
-use Rattle.xsk_judge.specs.Judging.{is_latest, IsFor}
+use Rattle.xsk_judge.specs.Judging.{is_latest, IsSized}
 use Rattle.xsk_judge.specs.declared.known.Known.{Known}
+use Rattle.xsk_judge.specs.declared.why.Why.{Why}
+use Rattle.xsk_judge.specs.declared.why.Why.TheVariants.{Rule, Kernel, TooMany}
 
 -- a call with its line
 pub record Line : Type 0 where
@@ -60,9 +63,16 @@ pub record StandsFor (s : Setting) (kept : Kept) (lines : List Line) : Type 0 wh
   pub queues : (r : Ring) → HasRing s r → is_made r ≡ false → IsQueue s (calls_of lines) kept.frames r (queue_at s kept r)
   pub strays : (d : ℕ) → d < length s.pairs → strays_at kept d ≡ strays_given s d (calls_of lines)
 
--- the program may not make the call, and it may, but no kernel can give this reply
-abbrev pub IsBroken : Setting → List Line → Call → Type 0
-IsBroken s lines call = IsLegal s Program (calls_of lines) call → ⊥
+-- it stands for some calls
+pub record IsReady (s : Setting) (kept : Kept) : Type 0 where
+  pub sized : IsSized s kept
+  pub lines : List Line
+  pub stands : StandsFor s kept lines
 
-abbrev pub IsDenied : Setting → List Line → Call → Type 0
-IsDenied s lines call = IsLegal s Program (calls_of lines) call × (Possible s (call ∷ calls_of lines) → ⊥)
+-- Why a call isn't possible after those: the program may not make it; it may, but there is no kernel that gives it this reply; or the
+-- judge can't count so many addresses that name no frame.
+abbrev pub IsWhy : Setting → List Line → Call → Why → Type 0
+IsWhy s lines call (Rule rule) = IsLegal s Program (calls_of lines) call → ⊥
+IsWhy s lines call (Kernel denial) = IsLegal s Program (calls_of lines) call × (Possible s (call ∷ calls_of lines) → ⊥)
+IsWhy s lines (Submit (Tx k) entries) TooMany = 2 ^ 64 ≤ strays_given s (pair_of s (Tx k)) (calls_of lines) + strays_in s entries
+IsWhy s lines call TooMany = ⊥

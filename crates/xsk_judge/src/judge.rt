@@ -1,12 +1,14 @@
 //! The judge, call by call.
-ghost use Rattle.std.specs.Prelude.{◌≡◌, ◌+◌, ◌-◌, ◌^◌, ◌<◌, ◌≤◌, ◌↔◌, ◌⊎◌, ℕ, min, [], IfOk, IfErr, IfSome, IsNone, IsTrue, false, length, take};
+ghost use Rattle.std.specs.Prelude.{◌≡◌, ◌+◌, ◌-◌, ◌^◌, ◌<◌, ◌≤◌, ◌↔◌, ◌⊎◌, ℕ, min, [], IfOk, IfErr, IfSome, IsNone, IsTrue, List, ◌∷◌, false, length, take};
 ghost use Rattle.xsk_side.specs.Setting.{HasRing};
 ghost use Rattle.xsk_side.specs.Object.{is_made as made};
 ghost use Rattle.xsk_side.specs.Local.{FitsAnswer};
 ghost use Rattle.xsk_side.specs.declared.call.Call.TheVariants.{Reserve, Free, Submit, Peek, Release, Cancel};
 ghost use Rattle.xsk_judge.specs.Kept.{place, queue_at, standing};
+ghost use Rattle.xsk_judge.specs.Stands.{Line, IsReady, IsKnown, IsWhy, StandsFor};
 ghost use Rattle.xsk_judge.specs.Judging.{IsFor, IsRule, IsDenial, IsReason, MayCall, MayAnswer, Agrees, CanCome, after, come_after, held_after, reserved, told_free};
 
+use crate::first;
 use crate::known::{End, Known, Place};
 use crate::marks;
 use crate::queue::Queue;
@@ -39,10 +41,51 @@ impl Model for Judge {
 }
 
 impl Judge {
-    /// Judges the next call, which stands in this line. After an error the judge isn't used again.
-    ///
-    /// It takes no memory.
+    /// A judge that stands for no call. It takes all the memory that it will need; want of it is the one error.
+    pub fn new(alloc: Global, setting: &Setting) -> Result<Judge, OutOfMemory>
+        ensures ready { IfOk result (λ judge. IsReady setting.now judge) }
+        ensures stands { IfOk result (λ judge. StandsFor setting.now judge []) }
+    {
+        let start = Known {
+            place: Place::Start,
+            since: 0,
+        };
+        let frames = vec![in alloc; start; setting.frames() as usize]?;
+        let strays = vec![in alloc; 0u64; setting.pairs().len()]?;
+        let ends = first::ends(alloc, setting)?;
+        let queues = first::queues(alloc, setting)?;
+        Ok(Judge {
+            frames,
+            ends,
+            queues,
+            strays,
+        })
+    }
+
+    /// Judges the next call, which stands in this line: Ok exactly where some kernel can have answered so, and else why not. After an
+    /// error the judge isn't used again. It takes no memory.
     pub fn step(&mut self, setting: &Setting, line: u64, call: &Call) -> Result<(), Why>
+        requires { IsReady setting.now self.old }
+        ensures ready { IfOk result (λ _. IsReady setting.now self.new) }
+        ensures stands { IfOk result (λ _. (lines : List Line) → StandsFor setting.now self.old lines → StandsFor setting.now self.new (record { line = line; call = call.now } ∷ lines)) }
+        ensures why { IfErr result (λ why. (lines : List Line) → StandsFor setting.now self.old lines → IsWhy setting.now lines call.now why) }
+    {
+        match self.judge(setting, line, call) {
+            Ok(()) => Ok(()),
+            Err(why) => Err(why),
+        }
+    }
+
+    /// Where a frame is, and since which line.
+    pub fn known(&self, setting: &Setting, frame: u32) -> Known
+        requires ready { IsReady setting.now self.now }
+        requires frame { frame < setting.now.geometry.frames }
+        ensures { (lines : List Line) → StandsFor setting.now self.now lines → IsKnown setting.now lines frame result }
+    {
+        self.frames[frame as usize]
+    }
+
+    fn judge(&mut self, setting: &Setting, line: u64, call: &Call) -> Result<(), Why>
         requires { IsFor setting.now self.old }
         ensures ok { IfOk result (λ _. MayCall setting.now self.old call.now × MayAnswer setting.now self.old call.now × (self.new ≡ after setting.now line self.old call.now)) }
         ensures why { IfErr result (λ why. IsReason setting.now self.old call.now why) }

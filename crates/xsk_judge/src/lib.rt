@@ -1,6 +1,7 @@
 //! Judges the ring calls of one program, one after the other: whether some kernel can have answered so, and if not, what is wrong.
 #![tactic(auto)]
 
+mod first;
 mod judge;
 mod known;
 mod marks;

@@ -5,7 +5,6 @@ use Rattle.xsk_judge.specs.Kept.{Queue, Kept, queue_at, standing}
 use Rattle.xsk_judge.specs.Judging.{Agrees, CanCome, held_after, peeked}
 use Rattle.xsk_judge.proofs.Behind.{no_queue}
 use Rattle.xsk_judge.proofs.Marking.{length-marked}
-use Rattle.xsk_judge.proofs.Standings.{stands_cancel}
 use Rattle.xsk_judge.proofs.Showing.{parts_answer, answer_comes, drop_again, denied_is, peek_done}
 use Rattle.xsk_judge.proofs.judge.Judge.peek.Goals as goal
 
