@@ -1,12 +1,11 @@
 -- Entries that are shown again, compared with those that stand there.
-use Rattle.std.proofs.Common.{◌≡◌, ℕ, zero, suc, ◌+◌, ◌-◌, ◌<◌, ◌≤◌, min, List, [], ◌∷◌, ◌++◌, length, take, drop, get_or, Some, None, refl, sym, ap, ◌∙◌, subst, arith, length-drop, cond, Bool, true, false}
-use Rattle.std.specs.Prelude.{slice_get, IsTrue}
-use Rattle.std.proofs.lemmas.List.{take_more_same, get_or-drop, get_or-take, take_min, take_all, length-take}
+use Rattle.std.proofs.Common.{◌≡◌, ℕ, zero, suc, ◌+◌, ◌<◌, ◌≤◌, min, List, [], ◌∷◌, length, take, get_or, Some, refl, sym, ap, ◌∙◌, arith, length-drop}
+use Rattle.std.specs.Prelude.{slice_get}
+use Rattle.std.proofs.lemmas.List.{take_more_same, get_or-drop, get_or-take, take_min}
 use Rattle.xsk_umem.specs.declared.batch.XdpDesc.{XdpDesc}
 use Rattle.xsk_judge.specs.Kept.{Queue, standing}
-use Rattle.xsk_judge.specs.Judging.{Agrees}
 use Rattle.xsk_judge.proofs.Marking.{nothing}
-use Rattle.xsk_judge.proofs.Coming.{got_below, got_is}
+use Rattle.xsk_judge.proofs.Coming.{got_is}
 
 got_some : (es : List XdpDesc) (i : ℕ) (d : XdpDesc) → i < length es → slice_get es i ≡ Some (get_or es i d)
 got_some [] i d low = absurd (omega (arith, low))
@@ -17,17 +16,17 @@ pub same_step : (queue : Queue) (es : List XdpDesc) (n i : ℕ) → n ≤ length
     → slice_get queue.entries (queue.held + i) ≡ Some (get_or es i nothing) → take (i + 1) es ≡ take (i + 1) (standing queue)
 same_step queue es n i few within low same at =
     take_more_same es (standing queue) i nothing (omega (arith, low, within)) (omega (arith, low, few)) same
-      (sym (get_or-drop queue.held queue.entries i nothing ∙ got_is queue.entries (queue.held + i) (get_or es i nothing) nothing at))
+    (sym (get_or-drop queue.held queue.entries i nothing ∙ got_is queue.entries (queue.held + i) (get_or es i nothing) nothing at))
 
 pub same_stop : (queue : Queue) (es : List XdpDesc) (n i : ℕ) → n ≤ length (standing queue) → n ≤ length es → i < n
     → (slice_get queue.entries (queue.held + i) ≡ Some (get_or es i nothing) → ⊥) → take n es ≡ take n (standing queue) → ⊥
 same_stop queue es n i few within low not same =
     let low_all : queue.held + i < length queue.entries = omega (arith, low, few, length-drop queue.held queue.entries) in
     not (got_some queue.entries (queue.held + i) nothing low_all
-      ∙ ap Some (sym (get_or-drop queue.held queue.entries i nothing)
-        ∙ sym (get_or-take n (standing queue) i nothing low)
-        ∙ ap (λ xs. get_or xs i nothing) (sym same)
-        ∙ get_or-take n es i nothing low))
+    ∙ ap Some (sym (get_or-drop queue.held queue.entries i nothing)
+    ∙ sym (get_or-take n (standing queue) i nothing low)
+    ∙ ap (λ xs. get_or xs i nothing) (sym same)
+    ∙ get_or-take n es i nothing low))
 
 -- as far as both reach
 pub as_far : (back es : List XdpDesc) (n : ℕ) → n ≡ min (length back) (length es) → (take n es ≡ take n back) → take (length back) es ≡ take (length es) back

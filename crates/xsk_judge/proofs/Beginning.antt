@@ -1,23 +1,16 @@
 -- Before the first call a judge stands for none.
-use Rattle.std.proofs.Common.{◌≡◌, ℕ, zero, suc, ◌+◌, ◌<◌, ◌≤◌, Bool, true, false, Option, Some, None, List, [], ◌∷◌, ◌++◌, length, map, get_or, replicate, refl, sym, ap, ◌∙◌, subst, arith, length-append}
-use Rattle.std.specs.Prelude.{unwrap_or}
+use Rattle.std.proofs.Common.{◌≡◌, ℕ, zero, suc, ◌+◌, ◌<◌, true, false, None, List, [], ◌∷◌, ◌++◌, length, map, get_or, replicate, refl, sym, ap, ◌∙◌, subst, arith, length-append}
 use Rattle.std.proofs.lemmas.List.{length-map, length-replicate, get_or-replicate, get_or_append_left, get_or-append-add}
 use Rattle.xsk_model.specs.declared.call.Ring.{Ring}
 use Rattle.xsk_model.specs.declared.call.Ring.TheVariants.{Fill, Comp, Rx, Tx}
 use Rattle.xsk_side.specs.Setting.{Setting, IsSetting, HasRing, size_of}
 use Rattle.xsk_side.specs.Object.{is_made}
-use Rattle.xsk_side.specs.declared.setting.Pair.{Pair}
-use Rattle.xsk_side.specs.declared.setting.Socket.{Socket}
-use Rattle.xsk_judge.specs.declared.known.Known.{Known}
 use Rattle.xsk_judge.specs.declared.known.End.{End}
 use Rattle.xsk_judge.specs.declared.known.Place.TheVariants.{Start}
-use Rattle.xsk_judge.specs.Kept.{Queue, Kept, known_in, place, end_at, queue_at}
-use Rattle.xsk_judge.specs.Judging.{IsSized}
+use Rattle.xsk_judge.specs.Kept.{Queue, Kept, known_in, end_at, queue_at}
 use Rattle.xsk_judge.specs.First.{fill_end, tx_end, comp_queue, rx_queue}
 use Rattle.xsk_judge.specs.Stands.{IsKnown, IsQueue, IsReady, StandsFor}
 use Rattle.xsk_judge.proofs.Behind.{no_end, no_queue}
-
-
 
 at_map : {X Y : Type 0} (f : X → Y) (xs : List X) (i : ℕ) (d : X) (e : Y) → i < length xs → get_or (map f xs) i e ≡ f (get_or xs i d)
 at_map f [] i d e low = absurd (omega (arith, low))
@@ -55,13 +48,13 @@ pub stands_first : (s : Setting) (kept : Kept) → IsSetting s → IsFirst s kep
 stands_first s kept setting h = record {
   possible = record { history = []; legal = setting; own = refl };
   frames = λ f low.
-    let is : known_in kept.frames f ≡ record { place = Start; since = 0 } =
+      let is : known_in kept.frames f ≡ record { place = Start; since = 0 } =
       ap (λ xs. known_in xs f) h.frames ∙ get_or-replicate s.geometry.frames f (record { place = Start; since = 0 }) (record { place = Start; since = 0 }) low in
-    subst (λ k. IsKnown s [] f k) (sym is) (record { mine = refl; given = refl; since = refl });
+      subst (λ k. IsKnown s [] f k) (sym is) (record { mine = refl; given = refl; since = refl });
   room = λ r has made. ap (λ (x : End). x.room) (first_end s kept r h has made);
   sure = λ r has made. ap (λ (x : End). x.sure) (first_end s kept r h has made);
   queues = λ r has made. subst (IsQueue s [] kept.frames r) (sym (first_queue s kept r h has made))
-    (record { entries = refl; held = refl; latest = λ i x low. absurd (omega (arith, low)) });
+      (record { entries = refl; held = refl; latest = λ i x low. absurd (omega (arith, low)) });
   strays = λ d low. ap (λ xs. get_or xs d 0) h.strays ∙ get_or-replicate (length s.pairs) d 0 0 low;
 }
 

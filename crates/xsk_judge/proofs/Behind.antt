@@ -1,5 +1,5 @@
 -- What a judge keeps behind a call is what the calls leave.
-use Rattle.std.proofs.Common.{◌≡◌, ◌≢◌, ℕ, zero, suc, ◌+◌, ◌-◌, ◌<◌, ◌≤◌, ◌⊎◌, ◌%◌, ◌^◌, max, Bool, true, false, ◌&&◌, ◌||◌, not, ◌==◌, cond, Option, Some, None, List, [], ◌∷◌, ◌++◌, length, take, drop, map, get_or, set, refl, sym, ap, ◌∙◌, subst, arith, ⊎_elim, inl, inr, length-append, length-drop, get_or-set_same, get_or-set_other, length-set}
+use Rattle.std.proofs.Common.{◌≡◌, ℕ, zero, suc, ◌+◌, ◌<◌, ◌≤◌, ◌⊎◌, Bool, true, false, ◌&&◌, ◌||◌, not, ◌==◌, Some, None, List, [], ◌∷◌, ◌++◌, length, get_or, set, refl, sym, ap, ◌∙◌, subst, arith, ⊎_elim, get_or-set_same, get_or-set_other}
 use Rattle.std.specs.Prelude.{nat_lt, IsTrue}
 use Rattle.std.proofs.lemmas.Bool.{cases_Bool}
 use Rattle.std.proofs.lemmas.Bool.Decides.{nat_tests}
@@ -9,14 +9,14 @@ use Rattle.xsk_model.specs.declared.call.Ring.TheVariants.{Fill, Comp, Rx, Tx}
 use Rattle.xsk_model.specs.Descriptor.{is_inside}
 use Rattle.xsk_model.specs.Rings.{is_ring}
 use Rattle.xsk_model.proofs.Places.{is_ring-self}
-use Rattle.xsk_side.specs.Setting.{Setting, HasRing, size_of}
+use Rattle.xsk_side.specs.Setting.{Setting, HasRing}
 use Rattle.xsk_side.specs.Entries.{frame, times, stands}
-use Rattle.xsk_side.specs.Object.{is_made, ring_of, granted}
+use Rattle.xsk_side.specs.Object.{is_made, ring_of}
 use Rattle.xsk_side.specs.Own.{Held, touch, room_of, room_after, held_of, put_back, has_frame}
 use Rattle.xsk_side.specs.Possible.{Possible}
 use Rattle.xsk_side.specs.Local.{sure_of, sure_after, given_of}
 use Rattle.xsk_side.specs.declared.call.Call.{Call}
-use Rattle.xsk_side.specs.declared.call.Call.TheVariants.{Reserve, Free, Submit, Peek, Release, Cancel}
+use Rattle.xsk_side.specs.declared.call.Call.TheVariants.{Submit, Peek, Cancel}
 use Rattle.xsk_side.proofs.Lists.{number, times-append}
 use Rattle.xsk_side.proofs.Rings.{same_or, is_true, is_false}
 use Rattle.xsk_side.proofs.Frames.{IsFresh, times_fresh, frames_sound}
@@ -107,36 +107,36 @@ pub room_behind : (s : Setting) (kept : Kept) (lines : List Line) (line : ℕ) (
 room_behind s kept lines line call ends r for now h has made =
     let q = ring_of call in let calls = calls_of lines in
     ⊎_elim
-      (λ (e : r ≡ q). subst (λ x. (get_or ends (place s x) no_end).room ≡ room_of x (call ∷ calls)) (sym e)
-        (ap (λ xs. (get_or xs (place s q) no_end).room) h.is
-          ∙ ap (λ (x : End). x.room) (end_here s kept.ends q h.end for.ends h.known)
-          ∙ h.room
-          ∙ ap (λ k. room_after k call) (now.room q h.known h.ring)
-          ∙ sym (is_true (is_ring q q) (room_after (room_of q calls) call) (room_of q calls) (is_ring-self q))))
-      (λ (off : is_ring r q ≡ false).
-        ap (λ xs. (get_or xs (place s r) no_end).room) h.is
-        ∙ ap (λ (x : End). x.room) (end_else s kept.ends r q h.end made h.ring has h.known off)
-        ∙ now.room r has made
-        ∙ sym (is_false (is_ring r q) (room_after (room_of r calls) call) (room_of r calls) off))
-      (same_or r q)
+    (λ (e : r ≡ q). subst (λ x. (get_or ends (place s x) no_end).room ≡ room_of x (call ∷ calls)) (sym e)
+    (ap (λ xs. (get_or xs (place s q) no_end).room) h.is
+    ∙ ap (λ (x : End). x.room) (end_here s kept.ends q h.end for.ends h.known)
+    ∙ h.room
+    ∙ ap (λ k. room_after k call) (now.room q h.known h.ring)
+    ∙ sym (is_true (is_ring q q) (room_after (room_of q calls) call) (room_of q calls) (is_ring-self q))))
+    (λ (off : is_ring r q ≡ false).
+    ap (λ xs. (get_or xs (place s r) no_end).room) h.is
+    ∙ ap (λ (x : End). x.room) (end_else s kept.ends r q h.end made h.ring has h.known off)
+    ∙ now.room r has made
+    ∙ sym (is_false (is_ring r q) (room_after (room_of r calls) call) (room_of r calls) off))
+    (same_or r q)
 
 pub sure_behind : (s : Setting) (kept : Kept) (lines : List Line) (line : ℕ) (call : Call) (ends : List End) (r : Ring) → IsFor s kept → StandsFor s kept lines → IsEnd s kept call ends
     → HasRing s r → is_made r ≡ true → (get_or ends (place s r) no_end).sure ≡ sure_of s r (calls_of (record { line = line; call = call } ∷ lines))
 sure_behind s kept lines line call ends r for now h has made =
     let q = ring_of call in let calls = calls_of lines in
     ⊎_elim
-      (λ (e : r ≡ q). subst (λ x. (get_or ends (place s x) no_end).sure ≡ sure_of s x (call ∷ calls)) (sym e)
-        (ap (λ xs. (get_or xs (place s q) no_end).sure) h.is
-          ∙ ap (λ (x : End). x.sure) (end_here s kept.ends q h.end for.ends h.known)
-          ∙ h.sure
-          ∙ ap (λ k. sure_after k call) (now.sure q h.known h.ring)
-          ∙ sym (is_true (is_ring q q) (sure_after (sure_of s q calls) call) (sure_of s q calls) (is_ring-self q))))
-      (λ (off : is_ring r q ≡ false).
-        ap (λ xs. (get_or xs (place s r) no_end).sure) h.is
-        ∙ ap (λ (x : End). x.sure) (end_else s kept.ends r q h.end made h.ring has h.known off)
-        ∙ now.sure r has made
-        ∙ sym (is_false (is_ring r q) (sure_after (sure_of s r calls) call) (sure_of s r calls) off))
-      (same_or r q)
+    (λ (e : r ≡ q). subst (λ x. (get_or ends (place s x) no_end).sure ≡ sure_of s x (call ∷ calls)) (sym e)
+    (ap (λ xs. (get_or xs (place s q) no_end).sure) h.is
+    ∙ ap (λ (x : End). x.sure) (end_here s kept.ends q h.end for.ends h.known)
+    ∙ h.sure
+    ∙ ap (λ k. sure_after k call) (now.sure q h.known h.ring)
+    ∙ sym (is_true (is_ring q q) (sure_after (sure_of s q calls) call) (sure_of s q calls) (is_ring-self q))))
+    (λ (off : is_ring r q ≡ false).
+    ap (λ xs. (get_or xs (place s r) no_end).sure) h.is
+    ∙ ap (λ (x : End). x.sure) (end_else s kept.ends r q h.end made h.ring has h.known off)
+    ∙ now.sure r has made
+    ∙ sym (is_false (is_ring r q) (sure_after (sure_of s r calls) call) (sure_of s r calls) off))
+    (same_or r q)
 
 -- behind a call on another kind of ring
 pub unlike : (r q : Ring) → is_made r ≡ true → is_made q ≡ false → is_ring r q ≡ false
@@ -195,18 +195,18 @@ pub known_submit : (s : Setting) (kept : Kept) (lines : List Line) (line : ℕ) 
     → IsKnown s (more line (Submit r es) lines) f (known_in (marked s (given r line) 0 es kept.frames) f)
 known_submit s kept lines line r es f for now low = ⊎_elim
     (λ (some : 1 ≤ times s f es).
-      let is = marked-all s (given r line) (given r line 0) 0 es kept.frames f (λ j. refl) (omega (arith, low, for.frames)) some in
-      let st = one_stands s f es some in
-      subst (IsKnown s (more line (Submit r es) lines) f) (sym is) (record {
-        mine = sym (is_true (stands s f es) false (has_frame s f (calls_of lines)) st);
-        given = sym (is_true (stands s f es) (Some r) (given_of s (calls_of lines) f) st);
-        since = sym (is_true (stands s f es) line (since_of s f lines) st);
-      }))
+    let is = marked-all s (given r line) (given r line 0) 0 es kept.frames f (λ j. refl) (omega (arith, low, for.frames)) some in
+    let st = one_stands s f es some in
+    subst (IsKnown s (more line (Submit r es) lines) f) (sym is) (record {
+      mine = sym (is_true (stands s f es) false (has_frame s f (calls_of lines)) st);
+      given = sym (is_true (stands s f es) (Some r) (given_of s (calls_of lines) f) st);
+      since = sym (is_true (stands s f es) line (since_of s f lines) st);
+    }))
     (λ (none : times s f es ≡ 0).
-      let st = none_stands s f es none in
-      subst (IsKnown s (more line (Submit r es) lines) f) (sym (marked-none s (given r line) 0 es kept.frames f none))
-        (known_same s lines line (Submit r es) f (known_in kept.frames f) (now.frames f low)
-          (is_false (stands s f es) false (has_frame s f (calls_of lines)) st) (is_false (stands s f es) (Some r) (given_of s (calls_of lines) f) st) st))
+    let st = none_stands s f es none in
+    subst (IsKnown s (more line (Submit r es) lines) f) (sym (marked-none s (given r line) 0 es kept.frames f none))
+    (known_same s lines line (Submit r es) f (known_in kept.frames f) (now.frames f low)
+    (is_false (stands s f es) false (has_frame s f (calls_of lines)) st) (is_false (stands s f es) (Some r) (given_of s (calls_of lines) f) st) st))
     (some_or_none (times s f es))
 
 -- behind a Peek
@@ -218,29 +218,29 @@ known_peek s kept lines line r n es known new first at next f for now both low =
     let size : f < length inner = omega (arith, low, for.frames, length-marked s (peeked r first line) next new kept.frames) in
     let sum : times s f es ≡ times s f known + times s f new = ap (times s f) both ∙ times-append s f known new in
     let shown = λ (j : ℕ) (some : 1 ≤ times s f es).
-      let st = one_stands s f es some in
-      let at_j : IsKnown s (more line (Peek r n es) lines) f (peeked r first line j) = record {
-        mine = sym (is_true (stands s f es) true (has_frame s f (calls_of lines)) st);
-        given = sym (is_true (stands s f es) None (given_of s (calls_of lines) f) st);
-        since = sym (is_true (stands s f es) line (since_of s f lines) st);
-      } in at_j in
+    let st = one_stands s f es some in
+    let at_j : IsKnown s (more line (Peek r n es) lines) f (peeked r first line j) = record {
+      mine = sym (is_true (stands s f es) true (has_frame s f (calls_of lines)) st);
+      given = sym (is_true (stands s f es) None (given_of s (calls_of lines) f) st);
+      since = sym (is_true (stands s f es) line (since_of s f lines) st);
+    } in at_j in
     ⊎_elim
-      (λ (some : 1 ≤ times s f known).
-        let is = marked-one s (peeked r first line) at known inner f size some in
-        subst (IsKnown s (more line (Peek r n es) lines) f) (sym is.1) (shown is.0 (omega (arith, some, sum))))
-      (λ (none : times s f known ≡ 0).
-        let outer = marked-none s (peeked r first line) at known inner f none in
-        ⊎_elim
-          (λ (some : 1 ≤ times s f new).
-            let is = marked-one s (peeked r first line) next new kept.frames f (omega (arith, low, for.frames)) some in
-            subst (IsKnown s (more line (Peek r n es) lines) f) (sym (outer ∙ is.1)) (shown is.0 (omega (arith, some, sum))))
-          (λ (no : times s f new ≡ 0).
-            let st = none_stands s f es (omega (arith, none, no, sum)) in
-            subst (IsKnown s (more line (Peek r n es) lines) f) (sym (outer ∙ marked-none s (peeked r first line) next new kept.frames f no))
-              (known_same s lines line (Peek r n es) f (known_in kept.frames f) (now.frames f low)
-                (is_false (stands s f es) true (has_frame s f (calls_of lines)) st) (is_false (stands s f es) None (given_of s (calls_of lines) f) st) st))
-          (some_or_none (times s f new)))
-      (some_or_none (times s f known))
+    (λ (some : 1 ≤ times s f known).
+    let is = marked-one s (peeked r first line) at known inner f size some in
+    subst (IsKnown s (more line (Peek r n es) lines) f) (sym is.1) (shown is.0 (omega (arith, some, sum))))
+    (λ (none : times s f known ≡ 0).
+    let outer = marked-none s (peeked r first line) at known inner f none in
+    ⊎_elim
+    (λ (some : 1 ≤ times s f new).
+    let is = marked-one s (peeked r first line) next new kept.frames f (omega (arith, low, for.frames)) some in
+    subst (IsKnown s (more line (Peek r n es) lines) f) (sym (outer ∙ is.1)) (shown is.0 (omega (arith, some, sum))))
+    (λ (no : times s f new ≡ 0).
+    let st = none_stands s f es (omega (arith, none, no, sum)) in
+    subst (IsKnown s (more line (Peek r n es) lines) f) (sym (outer ∙ marked-none s (peeked r first line) next new kept.frames f no))
+    (known_same s lines line (Peek r n es) f (known_in kept.frames f) (now.frames f low)
+    (is_false (stands s f es) true (has_frame s f (calls_of lines)) st) (is_false (stands s f es) None (given_of s (calls_of lines) f) st) st))
+    (some_or_none (times s f new)))
+    (some_or_none (times s f known))
 
 -- behind a Cancel of entries
 pub known_cancel : (s : Setting) (kept : Kept) (lines : List Line) (line : ℕ) (r : Ring) (n : ℕ) (f : ℕ) → IsFor s kept → StandsFor s kept lines → f < s.geometry.frames
@@ -249,26 +249,26 @@ pub known_cancel : (s : Setting) (kept : Kept) (lines : List Line) (line : ℕ) 
 known_cancel s kept lines line r n f for now low given =
     let es = put_back s (calls_of lines) r n in
     ⊎_elim
-      (λ (some : 1 ≤ times s f es).
-        let is = marked-all s (again r line) (again r line 0) 0 es kept.frames f (λ j. refl) (omega (arith, low, for.frames)) some in
-        let st = one_stands s f es some in
-        subst (IsKnown s (more line (Cancel r n) lines) f) (sym is) (record {
-          mine = sym (is_true (stands s f es) false (has_frame s f (calls_of lines)) st);
-          given = ⊎_elim (λ (g : given_of s (calls_of lines) f ≡ None). sym g) (λ (no : times s f es ≡ 0). absurd (omega (arith, some, no))) given;
-          since = sym (is_true (stands s f es) line (since_of s f lines) st);
-        }))
-      (λ (none : times s f es ≡ 0).
-        let st = none_stands s f es none in
-        subst (IsKnown s (more line (Cancel r n) lines) f) (sym (marked-none s (again r line) 0 es kept.frames f none))
-          (known_same s lines line (Cancel r n) f (known_in kept.frames f) (now.frames f low) (is_false (stands s f es) false (has_frame s f (calls_of lines)) st) refl st))
-      (some_or_none (times s f es))
+    (λ (some : 1 ≤ times s f es).
+    let is = marked-all s (again r line) (again r line 0) 0 es kept.frames f (λ j. refl) (omega (arith, low, for.frames)) some in
+    let st = one_stands s f es some in
+    subst (IsKnown s (more line (Cancel r n) lines) f) (sym is) (record {
+      mine = sym (is_true (stands s f es) false (has_frame s f (calls_of lines)) st);
+      given = ⊎_elim (λ (g : given_of s (calls_of lines) f ≡ None). sym g) (λ (no : times s f es ≡ 0). absurd (omega (arith, some, no))) given;
+      since = sym (is_true (stands s f es) line (since_of s f lines) st);
+    }))
+    (λ (none : times s f es ≡ 0).
+    let st = none_stands s f es none in
+    subst (IsKnown s (more line (Cancel r n) lines) f) (sym (marked-none s (again r line) 0 es kept.frames f none))
+    (known_same s lines line (Cancel r n) f (known_in kept.frames f) (now.frames f low) (is_false (stands s f es) false (has_frame s f (calls_of lines)) st) refl st))
+    (some_or_none (times s f es))
 
 -- ---- the frames of held entries
 
 pub facts : (s : Setting) (calls : List Call) (f : ℕ) → Possible s calls → IsFresh (number (has_frame s f calls)) (λ r. times_fresh s f (held_of s r calls))
 facts s calls f possible =
     subst (λ mine. IsFresh (number (has_frame s f mine)) (λ r. times_fresh s f (held_of s r mine))) possible.own
-      (frames_sound s possible.history f possible.legal).fresh
+    (frames_sound s possible.history f possible.legal).fresh
 
 -- where no held entry of the frame is untouched, this one isn't
 pub touched_all : (s : Setting) (held : List Held) (i : ℕ) (h : Held) → i < length held → IsTrue (is_inside s.geometry (get_or held i h).entry)
@@ -300,27 +300,29 @@ pub latest_submit : (s : Setting) (frames : List Known) (line : ℕ) (q r : Ring
     → is_latest s frames r i h.entry ≡ h.untouched → is_latest s (marked s (given q line) 0 es frames) r i h.entry ≡ (touch s es h).untouched
 latest_submit s frames line q r es i h size is = ⊎_elim
     (λ (inside : is_inside s.geometry h.entry ≡ true).
-      let f = frame s h.entry in let low = inside_below s h.entry inside in
-      ⊎_elim
-        (λ (some : 1 ≤ times s f es).
-          let now = marked-all s (given q line) (given q line 0) 0 es frames f (λ j. refl) (omega (arith, size, low)) some in
-          latest_inside s (marked s (given q line) 0 es frames) r i h.entry inside
-          ∙ ap (λ (k : Known). is_as r i k.place) now
-          ∙ sym (off h.untouched (is_inside s.geometry h.entry) (stands s f es) inside (one_stands s f es some)))
-        (λ (none : times s f es ≡ 0).
-          latest_same s frames (marked s (given q line) 0 es frames) r i h.entry (λ _. marked-none s (given q line) 0 es frames f none)
-          ∙ is ∙ sym (keeps h.untouched (is_inside s.geometry h.entry) (stands s f es) (none_stands s f es none)))
-        (some_or_none (times s f es)))
+    let f = frame s h.entry in let low = inside_below s h.entry inside in
+    ⊎_elim
+    (λ (some : 1 ≤ times s f es).
+    let now = marked-all s (given q line) (given q line 0) 0 es frames f (λ j. refl) (omega (arith, size, low)) some in
+    latest_inside s (marked s (given q line) 0 es frames) r i h.entry inside
+    ∙ ap (λ (k : Known). is_as r i k.place) now
+    ∙ sym (off h.untouched (is_inside s.geometry h.entry) (stands s f es) inside (one_stands s f es some)))
+    (λ (none : times s f es ≡ 0).
+    latest_same s frames (marked s (given q line) 0 es frames) r i h.entry (λ _. marked-none s (given q line) 0 es frames f none)
+    ∙ is ∙ sym (keeps h.untouched (is_inside s.geometry h.entry) (stands s f es) (none_stands s f es none)))
+    (some_or_none (times s f es)))
     (λ (outside : is_inside s.geometry h.entry ≡ false).
-      latest_outside s (marked s (given q line) 0 es frames) r i h.entry outside
-      ∙ sym (latest_outside s frames r i h.entry outside)
-      ∙ is ∙ sym (out h.untouched (is_inside s.geometry h.entry) (stands s (frame s h.entry) es) outside))
+    latest_outside s (marked s (given q line) 0 es frames) r i h.entry outside
+    ∙ sym (latest_outside s frames r i h.entry outside)
+    ∙ is ∙ sym (out h.untouched (is_inside s.geometry h.entry) (stands s (frame s h.entry) es) outside))
     (cases_Bool (is_inside s.geometry h.entry))
   where
     off : (u a b : Bool) → a ≡ true → b ≡ true → (u && not (a && b)) ≡ false
     off u a b h k = grind (arith, h, k)
+
     keeps : (u a b : Bool) → b ≡ false → (u && not (a && b)) ≡ u
     keeps u a b h = grind (arith, h)
+
     out : (u a b : Bool) → a ≡ false → (u && not (a && b)) ≡ u
     out u a b h = grind (arith, h)
 

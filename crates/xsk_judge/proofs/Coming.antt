@@ -1,6 +1,6 @@
 -- Entries that come: each in a frame of its own, from where it was given.
-use Rattle.std.proofs.Common.{◌≡◌, ◌≢◌, ℕ, zero, suc, ◌+◌, ◌-◌, ◌<◌, ◌≤◌, ◌⊎◌, Bool, true, false, ◌&&◌, ◌||◌, not, cond, eqb, Option, Some, None, List, [], ◌∷◌, ◌++◌, length, take, drop, get_or, refl, sym, ap, ◌∙◌, subst, arith, ⊎_elim, length-append, length-drop}
-use Rattle.std.specs.Prelude.{IsTrue, All, slice_get}
+use Rattle.std.proofs.Common.{◌≡◌, ℕ, zero, suc, ◌+◌, ◌-◌, ◌<◌, ◌≤◌, Bool, true, false, ◌&&◌, ◌||◌, not, cond, eqb, Option, Some, None, List, [], ◌∷◌, ◌++◌, length, take, drop, get_or, refl, sym, ap, ◌∙◌, subst, arith, ⊎_elim, length-append, length-drop}
+use Rattle.std.specs.Prelude.{IsTrue, slice_get}
 use Rattle.std.proofs.lemmas.Bool.{cases_eq}
 use Rattle.std.proofs.lemmas.Bool.Decides.{nat_tests}
 use Rattle.std.proofs.lemmas.List.{take_more, length-take-le, get_or_at, get_or-drop}
@@ -12,13 +12,12 @@ use Rattle.xsk_model.specs.Descriptor.{is_inside, has_bytes, fits_chunk, has_kno
 use Rattle.xsk_side.specs.Setting.{Setting}
 use Rattle.xsk_side.specs.Entries.{frame, names, times, strays_in, is_received, is_laid}
 use Rattle.xsk_side.specs.Object.{is_made}
-use Rattle.xsk_side.specs.Legal.{IsReceived, IsCompleted}
 use Rattle.xsk_side.proofs.Lists.{number, times-append, times-split, strays-append, strays-split}
 use Rattle.xsk_side.proofs.Given.{some_or_none}
 use Rattle.xsk_judge.specs.declared.known.Known.{Known}
 use Rattle.xsk_judge.specs.Kept.{Queue, given_by, known_in, numbered}
 use Rattle.xsk_judge.specs.Judging.{AreNew, AreLatest, is_latest, IsNew, given_in, marked, peeked, set_known}
-use Rattle.xsk_judge.proofs.Marking.{marked-none, marked-push, known-none, known-here, length-set_known, number_cases, its_frame, inside_below, nothing}
+use Rattle.xsk_judge.proofs.Marking.{marked-none, marked-push, known-here, length-set_known, number_cases, its_frame, inside_below, nothing}
 
 -- ---- what is kept of a frame behind entries that are shown
 
@@ -34,13 +33,13 @@ pub marked-one : (s : Setting) (known : ℕ → Known) (i : ℕ) (es : List XdpD
 marked-one s known i [] frames f low some = absurd (omega (arith, some))
 marked-one s known i (e ∷ es) frames f low some = ⊎_elim
     (λ (later : 1 ≤ times s f es).
-      let found = marked-one s known (i + 1) es (set_known s frames e (known i)) f (omega (arith, low, length-set_known s frames e (known i))) later in
-      (found.0, found.1, omega (arith, found.2), omega (arith, found.3)))
+    let found = marked-one s known (i + 1) es (set_known s frames e (known i)) f (omega (arith, low, length-set_known s frames e (known i))) later in
+    (found.0, found.1, omega (arith, found.2), omega (arith, found.3)))
     (λ (none : times s f es ≡ 0). ⊎_elim
-      (λ (off : ◌≡◌ {A = ℕ} (number (names s f e)) 0). absurd (omega (arith, some, none, off)))
-      (λ (one : ◌≡◌ {A = ℕ} (number (names s f e)) 1).
-        (i, marked-none s known (i + 1) es (set_known s frames e (known i)) f none ∙ known-here s frames e (known i) f low one, omega arith, omega arith))
-      (number_cases (names s f e)))
+    (λ (off : ◌≡◌ {A = ℕ} (number (names s f e)) 0). absurd (omega (arith, some, none, off)))
+    (λ (one : ◌≡◌ {A = ℕ} (number (names s f e)) 1).
+    (i, marked-none s known (i + 1) es (set_known s frames e (known i)) f none ∙ known-here s frames e (known i) f low one, omega arith, omega arith))
+    (number_cases (names s f e)))
     (some_or_none (times s f es))
 
 -- the one entry that names the frame
@@ -55,6 +54,7 @@ marked-exact s known i (e ∷ es) frames zero d size low inside once =
   where
     its_own : (a : Bool) (x : ℕ) → a ≡ true → ◌≡◌ {A = ℕ} (number (a && eqb x x)) 1
     its_own a x h = grind (arith, nat_tests, h)
+
     same : (i : ℕ) → i ≡ i + 0
     same i = omega arith
 marked-exact s known i (e ∷ es) frames (suc k) d size low inside once =
@@ -69,8 +69,8 @@ pub still_given : (s : Setting) (r : Ring) (first line i : ℕ) (es : List XdpDe
     → given_in (marked s (peeked r first line) i es frames) f ≡ Some q → (times s f es ≡ 0) × (given_in frames f ≡ Some q)
 still_given s r first line i es frames f q size is = ⊎_elim
     (λ (some : 1 ≤ times s f es).
-      let shown = marked-one s (peeked r first line) i es frames f (omega (arith, size, named_below s f es some)) some in
-      absurd (differ q (sym (ap (λ (k : Known). given_by k.place) shown.1) ∙ is)))
+    let shown = marked-one s (peeked r first line) i es frames f (omega (arith, size, named_below s f es some)) some in
+    absurd (differ q (sym (ap (λ (k : Known). given_by k.place) shown.1) ∙ is)))
     (λ (none : times s f es ≡ 0). (none, sym (ap (λ (k : Known). given_by k.place) (marked-none s (peeked r first line) i es frames f none)) ∙ is))
     (some_or_none (times s f es))
   where
@@ -112,20 +112,20 @@ new_source s from (Tx k) e made h inside = absurd (cc)
 new_more : (s : Setting) (r : Ring) (first line at : ℕ) (before : List Known) (es : List XdpDesc) (e : XdpDesc) → is_made r ≡ false → length before ≡ s.geometry.frames
     → AreNew s before r es → IsNew s (given_in (marked s (peeked r first line) at es before)) r e → AreNew s before r (es ++ e ∷ [])
 new_more s r first line at before es e made size h new = (
-      λ f. ⊎_elim
-        (λ (none : ◌≡◌ {A = ℕ} (number (names s f e)) 0). omega (arith, times-append s f es (e ∷ []), none, h.0 f))
-        (λ (one : ◌≡◌ {A = ℕ} (number (names s f e)) 1).
-          let is = its_frame s e f one in
-          let source = new_source s (given_in (marked s (peeked r first line) at es before)) r e made new is.0 in
-          let none = still_given s r first line at es before (frame s e) source.0 size source.1 in
-          omega (arith, times-append s f es (e ∷ []), one, none.0, ap (λ x. times s x es) is.1))
-        (number_cases (names s f e)),
-      All-append (IsNew s (given_in before) r) es (e ∷ []) h.1
-        (All-cons (IsNew s (given_in before) r) e []
-          (new_as s (given_in (marked s (peeked r first line) at es before)) (given_in before) r e
-            (λ inside q from. (still_given s r first line at es before (frame s e) q size from).1) new)
-          (All-nil (IsNew s (given_in before) r))),
-    )
+  λ f. ⊎_elim
+      (λ (none : ◌≡◌ {A = ℕ} (number (names s f e)) 0). omega (arith, times-append s f es (e ∷ []), none, h.0 f))
+      (λ (one : ◌≡◌ {A = ℕ} (number (names s f e)) 1).
+      let is = its_frame s e f one in
+      let source = new_source s (given_in (marked s (peeked r first line) at es before)) r e made new is.0 in
+      let none = still_given s r first line at es before (frame s e) source.0 size source.1 in
+      omega (arith, times-append s f es (e ∷ []), one, none.0, ap (λ x. times s x es) is.1))
+      (number_cases (names s f e)),
+  All-append (IsNew s (given_in before) r) es (e ∷ []) h.1
+      (All-cons (IsNew s (given_in before) r) e []
+      (new_as s (given_in (marked s (peeked r first line) at es before)) (given_in before) r e
+      (λ inside q from. (still_given s r first line at es before (frame s e) q size from).1) new)
+      (All-nil (IsNew s (given_in before) r))),
+)
 
 new_not : (s : Setting) (r : Ring) (first line at : ℕ) (before : List Known) (es : List XdpDesc) (e : XdpDesc) → (IsNew s (given_in (marked s (peeked r first line) at es before)) r e → ⊥)
     → AreNew s before r (es ++ e ∷ []) → ⊥
@@ -133,10 +133,10 @@ new_not s r first line at before es e not all =
     let last : IsNew s (given_in before) r (get_or (es ++ e ∷ []) (length es) e) = all.1 (length es) e (omega (arith, length-append es (e ∷ []))) in
     let here : IsNew s (given_in before) r e = subst (IsNew s (given_in before) r) (get_or_at es e [] e (length es) refl) last in
     not (new_as s (given_in before) (given_in (marked s (peeked r first line) at es before)) r e
-      (λ inside q from.
-        let none : times s (frame s e) es ≡ 0 = omega (arith, all.0 (frame s e), times-append s (frame s e) es (e ∷ []), its_own (is_inside s.geometry e) (frame s e) inside) in
-        ap (λ (k : Known). given_by k.place) (marked-none s (peeked r first line) at es before (frame s e) none) ∙ from)
-      here)
+    (λ inside q from.
+    let none : times s (frame s e) es ≡ 0 = omega (arith, all.0 (frame s e), times-append s (frame s e) es (e ∷ []), its_own (is_inside s.geometry e) (frame s e) inside) in
+    ap (λ (k : Known). given_by k.place) (marked-none s (peeked r first line) at es before (frame s e) none) ∙ from)
+    here)
   where
     its_own : (a : Bool) (x : ℕ) → a ≡ true → ◌≡◌ {A = ℕ} (number (a && eqb x x)) 1
     its_own a x h = grind (arith, nat_tests, h)
@@ -162,17 +162,17 @@ pub come_step : (s : Setting) (r : Ring) (first line at : ℕ) (before now next 
     → next ≡ set_known s now (get_or es i nothing) (peeked r first line (at + i)) → IsNew s (given_in now) r (get_or es i nothing)
     → (next ≡ marked s (peeked r first line) at (take (i + 1) es) before) × AreNew s before r (take (i + 1) es)
 come_step s r first line at before now next es i made low size is new set here = (
-      push_step s (peeked r first line) at before now next es i low is set,
-      subst (AreNew s before r) (sym (take_more es i nothing low))
-        (new_more s r first line at before (take i es) (get_or es i nothing) made size new (subst (λ x. IsNew s (given_in x) r (get_or es i nothing)) is here)),
-    )
+  push_step s (peeked r first line) at before now next es i low is set,
+  subst (AreNew s before r) (sym (take_more es i nothing low))
+      (new_more s r first line at before (take i es) (get_or es i nothing) made size new (subst (λ x. IsNew s (given_in x) r (get_or es i nothing)) is here)),
+)
 
 pub come_stop : (s : Setting) (r : Ring) (first line at : ℕ) (before now : List Known) (es : List XdpDesc) (i : ℕ) → i < length es
     → now ≡ marked s (peeked r first line) at (take i es) before → (IsNew s (given_in now) r (get_or es i nothing) → ⊥) → AreNew s before r es → ⊥
 come_stop s r first line at before now es i low is not all =
     new_not s r first line at before (take i es) (get_or es i nothing)
-      (subst (λ x. IsNew s (given_in x) r (get_or es i nothing) → ⊥) is not)
-      (subst (AreNew s before r) (take_more es i nothing low) (new_fewer s before r (i + 1) es all))
+    (subst (λ x. IsNew s (given_in x) r (get_or es i nothing) → ⊥) is not)
+    (subst (AreNew s before r) (take_more es i nothing low) (new_fewer s before r (i + 1) es all))
 
 pub still_sent : (s : Setting) (r : Ring) (first line at : ℕ) (before now : List Known) (es : List XdpDesc) (f : ℕ) (q : Ring) → length before ≡ s.geometry.frames
     → now ≡ marked s (peeked r first line) at es before → given_in now f ≡ Some q → given_in before f ≡ Some q
@@ -222,8 +222,8 @@ back_step s known before now next es start i e at is same set =
     let rest = drop start es in
     let low_i : i < length rest = omega (arith, low, length-drop start es) in
     push_step s known 0 before now next rest i low_i is
-      (set ∙ ap (λ k. set_known s now e k) (same 0 (0 + i))
-        ∙ ap (λ x. set_known s now x (known (0 + i))) (sym (get_or-drop start es i nothing ∙ got_is es (start + i) e nothing at)))
+    (set ∙ ap (λ k. set_known s now e k) (same 0 (0 + i))
+    ∙ ap (λ x. set_known s now x (known (0 + i))) (sym (get_or-drop start es i nothing ∙ got_is es (start + i) e nothing at)))
 
 -- the loop of a Cancel, which looks at each
 pub latest_step : (s : Setting) (frames : List Known) (r : Ring) (first start k : ℕ) (es : List XdpDesc) (e : XdpDesc) → slice_get es (start + k) ≡ Some e
@@ -232,7 +232,7 @@ pub latest_step : (s : Setting) (frames : List Known) (r : Ring) (first start k 
     → (i : ℕ) (d : XdpDesc) → start ≤ i → i < start + (k + 1) → IsTrue (is_latest s frames r (numbered first i) (get_or es i d))
 latest_step s frames r first start k es e at here before i d low high = ⊎_elim
     (λ (is : i ≡ start + k). subst (λ j. IsTrue (is_latest s frames r (numbered first j) (get_or es j d))) (sym is)
-      (ap (is_latest s frames r (numbered first (start + k))) (got_is es (start + k) e d at) ∙ here))
+    (ap (is_latest s frames r (numbered first (start + k))) (got_is es (start + k) e d at) ∙ here))
     (λ (other : i ≡ start + k → ⊥). before i d low (omega (arith, high, other)))
     (cases_eq i (start + k))
 
@@ -241,7 +241,7 @@ pub latest_stop : (s : Setting) (frames : List Known) (r : Ring) (queue : Queue)
 latest_stop s frames r queue n k e at low few here all =
     let i = queue.held - n + k in
     both (is_latest s frames r (numbered queue.first i) e)
-      (ap (is_latest s frames r (numbered queue.first i)) (sym (got_is queue.entries i e e at)) ∙ all i e (omega (arith, few)) (omega (arith, low, few))) here
+    (ap (is_latest s frames r (numbered queue.first i)) (sym (got_is queue.entries i e e at)) ∙ all i e (omega (arith, few)) (omega (arith, low, few))) here
   where
     both : (b : Bool) → b ≡ true → b ≡ false → ⊥
     both true h k = cc

@@ -1,16 +1,15 @@
 -- What is kept of frames behind the entries of a call.
-use Rattle.std.proofs.Common.{◌≡◌, ◌≢◌, ℕ, zero, suc, ◌+◌, ◌*◌, ◌/◌, ◌<◌, ◌≤◌, ◌⊎◌, Bool, true, false, ◌&&◌, ◌==◌, cond, List, [], ◌∷◌, ◌++◌, length, take, get_or, set, refl, sym, ap, ◌∙◌, subst, arith, ⊎_elim, inl, inr, get_or-set_same, get_or-set_other, length-set}
+use Rattle.std.proofs.Common.{◌≡◌, ◌≢◌, ℕ, suc, ◌+◌, ◌*◌, ◌<◌, ◌≤◌, ◌⊎◌, Bool, true, false, ◌&&◌, ◌==◌, cond, List, [], ◌∷◌, ◌++◌, length, take, get_or, set, refl, sym, ap, ◌∙◌, subst, arith, ⊎_elim, inl, inr, get_or-set_same, get_or-set_other, length-set}
 use Rattle.std.specs.Prelude.{nat_lt, IsTrue}
-use Rattle.std.proofs.lemmas.Bool.{cases_eq, cases_Bool}
 use Rattle.std.proofs.lemmas.Bool.Decides.{nat_tests}
 use Rattle.std.proofs.lemmas.List.{take_more}
 use Rattle.std.proofs.Math.Nat.{div-lt_iff_lt-mul}
 use Rattle.xsk_umem.specs.declared.batch.XdpDesc.{XdpDesc}
 use Rattle.xsk_model.specs.Descriptor.{is_inside}
 use Rattle.xsk_side.specs.Setting.{Setting}
-use Rattle.xsk_side.specs.Entries.{frame, names, times, stands}
+use Rattle.xsk_side.specs.Entries.{frame, names, times}
 use Rattle.xsk_side.proofs.Lists.{number, times-append, times-split}
-use Rattle.xsk_side.proofs.Given.{no_stand, some_stand, some_or_none}
+use Rattle.xsk_side.proofs.Given.{some_or_none}
 use Rattle.xsk_judge.specs.declared.known.Known.{Known}
 use Rattle.xsk_umem.specs.Geometry.{area_of}
 use Rattle.xsk_model.specs.declared.call.Ring.{Ring}
@@ -50,6 +49,7 @@ known-none s frames e known f h = by (is_inside s.geometry e) (frame s e) h
   where
     apart : (x f : ℕ) → ◌≡◌ {A = ℕ} (number (x == f)) 0 → f ≢ x
     apart x f h = grind (arith, nat_tests, h)
+
     by : (b : Bool) (x : ℕ) → ◌≡◌ {A = ℕ} (number (b && x == f)) 0 → known_in (cond b (set frames x known) frames) f ≡ known_in frames f
     by false x h = refl
     by true x h = get_or-set_other frames x f known (known_in [] f) (apart x f h)
@@ -60,6 +60,7 @@ known-here s frames e known f low h = by (is_inside s.geometry e) (frame s e) h
   where
     same : (x f : ℕ) → ◌≡◌ {A = ℕ} (number (x == f)) 1 → x ≡ f
     same x f h = grind (arith, nat_tests, h)
+
     by : (b : Bool) (x : ℕ) → ◌≡◌ {A = ℕ} (number (b && x == f)) 1 → known_in (cond b (set frames x known) frames) f ≡ known
     by false x h = absurd (omega (arith, h))
     by true x h = subst (λ y. known_in (set frames y known) f ≡ known) (sym (same x f h)) (get_or-set_same frames f known (known_in [] f) low)
@@ -83,9 +84,9 @@ marked-all s known k i [] frames f same low some = absurd (omega (arith, some))
 marked-all s known k i (e ∷ es) frames f same low some = ⊎_elim
     (λ (later : 1 ≤ times s f es). marked-all s known k (i + 1) es (set_known s frames e (known i)) f same (omega (arith, low, length-set_known s frames e (known i))) later)
     (λ (none : times s f es ≡ 0).
-      marked-none s known (i + 1) es (set_known s frames e (known i)) f none
-      ∙ known-here s frames e (known i) f low (one_here (number (names s f e)) (times s f es) some none (number_cases (names s f e)))
-      ∙ same i)
+    marked-none s known (i + 1) es (set_known s frames e (known i)) f none
+    ∙ known-here s frames e (known i) f low (one_here (number (names s f e)) (times s f es) some none (number_cases (names s f e)))
+    ∙ same i)
     (some_or_none (times s f es))
   where
     one_here : (a b : ℕ) → 1 ≤ a + b → b ≡ 0 → (a ≡ 0) ⊎ (a ≡ 1) → a ≡ 1
@@ -98,6 +99,7 @@ its_frame s e f h = (inside (is_inside s.geometry e) (frame s e == f) h, same (i
   where
     inside : (a b : Bool) → ◌≡◌ {A = ℕ} (number (a && b)) 1 → a ≡ true
     inside a b h = grind (arith, h)
+
     same : (a : Bool) (x f : ℕ) → ◌≡◌ {A = ℕ} (number (a && x == f)) 1 → x ≡ f
     same a x f h = grind (arith, nat_tests, h)
 
@@ -107,15 +109,15 @@ pub mine_more : (s : Setting) (known : ℕ → Known) (k : Known) (frames : List
 mine_more s known k frames es e same mine low before here f = ⊎_elim
     (λ (none : ◌≡◌ {A = ℕ} (number (names s f e)) 0). omega (arith, times-append s f es (e ∷ []), none, before f))
     (λ (one : ◌≡◌ {A = ℕ} (number (names s f e)) 1).
-      let is = its_frame s e f one in
-      let low_f : f < length frames = subst (λ x. x < length frames) is.1 (low is.0) in
-      let now : is_mine (known_in (marked s known 0 es frames) f).place ≡ true = subst (λ x. is_mine (known_in (marked s known 0 es frames) x).place ≡ true) is.1 (here is.0) in
-      ⊎_elim
-        (λ (some : 1 ≤ times s f es). absurd (both (is_mine k.place) (sym (ap (λ (x : Known). is_mine x.place) (marked-all s known k 0 es frames f same low_f some)) ∙ now) mine))
-        (λ (no : times s f es ≡ 0).
-          let was : is_mine (known_in frames f).place ≡ true = sym (ap (λ (x : Known). is_mine x.place) (marked-none s known 0 es frames f no)) ∙ now in
-          omega (arith, times-append s f es (e ∷ []), one, no, ap number was))
-        (some_or_none (times s f es)))
+    let is = its_frame s e f one in
+    let low_f : f < length frames = subst (λ x. x < length frames) is.1 (low is.0) in
+    let now : is_mine (known_in (marked s known 0 es frames) f).place ≡ true = subst (λ x. is_mine (known_in (marked s known 0 es frames) x).place ≡ true) is.1 (here is.0) in
+    ⊎_elim
+    (λ (some : 1 ≤ times s f es). absurd (both (is_mine k.place) (sym (ap (λ (x : Known). is_mine x.place) (marked-all s known k 0 es frames f same low_f some)) ∙ now) mine))
+    (λ (no : times s f es ≡ 0).
+    let was : is_mine (known_in frames f).place ≡ true = sym (ap (λ (x : Known). is_mine x.place) (marked-none s known 0 es frames f no)) ∙ now in
+    omega (arith, times-append s f es (e ∷ []), one, no, ap number was))
+    (some_or_none (times s f es)))
     (number_cases (names s f e))
   where
     both : (b : Bool) → b ≡ true → b ≡ false → ⊥
@@ -136,11 +138,14 @@ mine_not s known k frames es e same low not all = not (λ inside.
   where
     its_own : (a : Bool) (x : ℕ) → a ≡ true → ◌≡◌ {A = ℕ} (number (a && x == x)) 1
     its_own a x h = grind (arith, nat_tests, h)
+
     at_most_one : (b : Bool) → number b ≤ 1
     at_most_one true = omega arith
     at_most_one false = omega arith
+
     none_before : (a m t : ℕ) → m ≤ 1 → t ≤ m → t ≡ a + 1 → a ≡ 0
     none_before a m t h k l = omega (arith, h, k, l)
+
     is_so : (b : Bool) → 1 ≤ number b → b ≡ true
     is_so true h = refl
     is_so false h = absurd (omega (arith, h))
@@ -155,9 +160,9 @@ pub inside_below : (s : Setting) (e : XdpDesc) → IsTrue (is_inside s.geometry 
 inside_below s e h =
     let low : e.addr < area_of s.geometry = lt_of e.addr (area_of s.geometry) h in
     ⊎_elim
-      (λ (some : 1 ≤ s.geometry.chunk). (div-lt_iff_lt-mul some).1 low)
-      (λ (none : s.geometry.chunk ≡ 0). let nothing_in : area_of s.geometry ≡ s.geometry.frames * 0 = ap (λ k. s.geometry.frames * k) none in absurd (omega (arith, low, nothing_in)))
-      (some_or_none s.geometry.chunk)
+    (λ (some : 1 ≤ s.geometry.chunk). (div-lt_iff_lt-mul some).1 low)
+    (λ (none : s.geometry.chunk ≡ 0). let nothing_in : area_of s.geometry ≡ s.geometry.frames * 0 = ap (λ k. s.geometry.frames * k) none in absurd (omega (arith, low, nothing_in)))
+    (some_or_none s.geometry.chunk)
   where
     lt_of : (x y : ℕ) → nat_lt x y ≡ true → x < y
     lt_of x y h = grind (arith, nat_tests, h)
@@ -174,14 +179,13 @@ pub give_step : (s : Setting) (r : Ring) (line : ℕ) (before now next : List Kn
     → (next ≡ marked s (given r line) 0 (take (i + 1) es) before) × AreMine s before (take (i + 1) es)
 give_step s r line before now next es i low size is mine set here =
     let e = get_or es i nothing in
-    let more = take_more es i nothing low in
-    (
+    let more = take_more es i nothing low in (
       set
-      ∙ ap (λ x. set_known s x e (given r line 0)) is
-      ∙ sym (marked-push s (given r line) 0 (take i es) e before)
-      ∙ ap (λ xs. marked s (given r line) 0 xs before) (sym more),
+          ∙ ap (λ x. set_known s x e (given r line 0)) is
+          ∙ sym (marked-push s (given r line) 0 (take i es) e before)
+          ∙ ap (λ xs. marked s (given r line) 0 xs before) (sym more),
       subst (AreMine s before) (sym more)
-        (mine_more s (given r line) (given r line 0) before (take i es) e (λ j. refl) refl
+          (mine_more s (given r line) (given r line 0) before (take i es) e (λ j. refl) refl
           (λ inside. omega (arith, size, inside_below s e inside)) mine (subst (λ x. IsMineAt s x e) is here)),
     )
 
@@ -190,5 +194,5 @@ pub give_stop : (s : Setting) (r : Ring) (line : ℕ) (before now : List Known) 
 give_stop s r line before now es i low size is not all =
     let e = get_or es i nothing in
     mine_not s (given r line) (given r line 0) before (take i es) e (λ j. refl) (λ inside. omega (arith, size, inside_below s e inside))
-      (subst (λ x. IsMineAt s x e → ⊥) is not)
-      (subst (AreMine s before) (take_more es i nothing low) (mine_fewer s before (i + 1) es all))
+    (subst (λ x. IsMineAt s x e → ⊥) is not)
+    (subst (AreMine s before) (take_more es i nothing low) (mine_fewer s before (i + 1) es all))

@@ -1,6 +1,6 @@
 -- A judge that stands for some calls is ready for the next.
-use Rattle.std.proofs.Common.{◌≡◌, ℕ, zero, suc, ◌+◌, ◌-◌, ◌<◌, ◌≤◌, ◌⊎◌, ◌^◌, Bool, true, false, cond, Option, Some, None, List, [], ◌∷◌, ◌++◌, length, take, drop, map, get_or, set, refl, sym, ap, ◌∙◌, subst, arith, ⊎_elim, inl, inr, length-append, length-set}
-use Rattle.std.specs.Prelude.{IsTrue, IfSome, unwrap_or, nat_lt}
+use Rattle.std.proofs.Common.{◌≡◌, ℕ, ◌+◌, ◌-◌, ◌<◌, ◌≤◌, ◌^◌, Bool, true, false, cond, Option, Some, None, List, [], ◌∷◌, length, take, drop, map, get_or, set, refl, sym, ap, ◌∙◌, subst, arith, ⊎_elim, length-append, length-set}
+use Rattle.std.specs.Prelude.{IfSome, unwrap_or}
 use Rattle.std.proofs.lemmas.List.{length-map, get_or_past}
 use Rattle.std.proofs.lemmas.Bool.{cases_Bool, cases_lt}
 use Rattle.xsk_umem.specs.declared.batch.XdpDesc.{XdpDesc}
@@ -9,13 +9,13 @@ use Rattle.xsk_model.specs.declared.call.Ring.TheVariants.{Fill, Comp, Rx, Tx}
 use Rattle.xsk_model.specs.Rings.{is_ring}
 use Rattle.xsk_side.specs.Setting.{Setting, IsSetting, IsRingSize, HasRing, size_of, pair_of, socket_at}
 use Rattle.xsk_side.specs.Entries.{stands, strays_in}
-use Rattle.xsk_side.specs.Object.{Entry, is_made, ring_of, ring_at}
+use Rattle.xsk_side.specs.Object.{Entry, is_made, ring_at}
 use Rattle.xsk_side.specs.Own.{entry_of, held_of, room_of}
 use Rattle.xsk_side.specs.Possible.{IsHistory, Possible, own}
 use Rattle.xsk_side.specs.Local.{AllFit, back_of, given_of, new_of, sure_of}
 use Rattle.xsk_side.specs.declared.call.Call.{Call}
 use Rattle.xsk_side.specs.declared.call.Call.TheVariants.{Reserve, Free, Submit, Peek, Release, Cancel}
-use Rattle.xsk_side.specs.declared.call.Party.TheVariants.{Program, Kernel}
+use Rattle.xsk_side.specs.declared.call.Party.TheVariants.{Program}
 use Rattle.xsk_side.proofs.Lists.{length-front}
 use Rattle.xsk_side.proofs.Rings.{rings_sound}
 use Rattle.xsk_side.proofs.Bounds.{sure_sound}
@@ -63,18 +63,18 @@ room_sure : (s : Setting) (calls : List Call) (r : Ring) → Possible s calls �
 room_sure s calls r possible made =
     let h = possible.history in
     subst (λ mine. room_of r mine + sure_of s r mine ≤ size_of s r) possible.own
-      (omega (arith, sure_sound s h r possible.legal made, (rings_sound s h possible.legal r).within, room_is s h r possible.legal (is_producer r made)))
+    (omega (arith, sure_sound s h r possible.legal made, (rings_sound s h possible.legal r).within, room_is s h r possible.legal (is_producer r made)))
 
 held_back : (s : Setting) (calls : List Call) (r : Ring) → Possible s calls → is_made r ≡ false → length (held_of s r calls) + length (back_of s r calls) ≤ size_of s r
 held_back s calls r possible made =
     let h = possible.history in
     subst (λ mine. length (held_of s r mine) + length (back_of s r mine) ≤ size_of s r) possible.own
-      (omega (
-        arith,
-        (rings_sound s h possible.legal r).within,
-        held_is s h r possible.legal (shown_by r made),
-        length-front (back_of s r (own Program h)) (ring_at r h).out ((given_sound s h possible.legal).rest r made).front,
-      ))
+    (omega (
+      arith,
+      (rings_sound s h possible.legal r).within,
+      held_is s h r possible.legal (shown_by r made),
+      length-front (back_of s r (own Program h)) (ring_at r h).out ((given_sound s h possible.legal).rest r made).front,
+    ))
 
 given_known : (s : Setting) (calls : List Call) (f : ℕ) (q : Ring) → AllFit s calls → given_of s calls f ≡ Some q → HasRing s q
 given_known s [] f q fit is = absurd (cc)
@@ -84,6 +84,7 @@ given_known s (Submit r es ∷ past) f q fit is = by (stands s f es) (given_of s
   where
     some_same : (r q : Ring) → Some r ≡ Some q → r ≡ q
     some_same r q h = cc
+
     by : (b : Bool) (g : Option Ring) → cond b (Some r) g ≡ Some q → HasRing s r → (g ≡ Some q → HasRing s q) → HasRing s q
     by true g h known before = subst (HasRing s) (some_same r q h) known
     by false g h known before = before h
@@ -114,14 +115,14 @@ for_of s kept lines sized now =
       room = λ r has made. omega (arith, room_sure s calls r now.possible made, now.room r has made, now.sure r has made);
       size = sized.size;
       held = λ r has made. let is = now.queues r has made in
-        omega (arith, is.held, ap length is.entries, length-append (map entry_of (held_of s r calls)) (back_of s r calls), length-map (held_of s r calls) entry_of);
+          omega (arith, is.held, ap length is.entries, length-append (map entry_of (held_of s r calls)) (back_of s r calls), length-map (held_of s r calls) entry_of);
       few = λ r has made. let is = now.queues r has made in
-        omega (arith, sized.size r has made, held_back s calls r now.possible made, ap length is.entries, length-append (map entry_of (held_of s r calls)) (back_of s r calls), length-map (held_of s r calls) entry_of);
+          omega (arith, sized.size r has made, held_back s calls r now.possible made, ap length is.entries, length-append (map entry_of (held_of s r calls)) (back_of s r calls), length-map (held_of s r calls) entry_of);
       sent = λ f t is. ⊎_elim
-        (λ (low : f < length kept.frames).
+          (λ (low : f < length kept.frames).
           given_known s calls f (Tx t) (possible_fits s calls now.possible) (sym (now.frames f (omega (arith, low, sized.frames))).given ∙ is))
-        (λ (past : length kept.frames ≤ f). absurd (given_default kept.frames f past (Tx t) is))
-        (cases_lt f (length kept.frames));
+          (λ (past : length kept.frames ≤ f). absurd (given_default kept.frames f past (Tx t) is))
+          (cases_lt f (length kept.frames));
     }
 
 -- ---- sizes stay
@@ -131,10 +132,10 @@ size_set : (s : Setting) (kept : Kept) (r : Ring) (queue : Queue) (queues : List
 size_set s kept r queue queues sized has made same is q has_q made_q =
     ap (λ xs. (get_or xs (place s q) no_queue).size) is
     ∙ ⊎_elim
-      (λ (e : q ≡ r). subst (λ x. (get_or (set kept.queues (place s r) queue) (place s x) no_queue).size ≡ size_of s x) (sym e)
-        (ap (λ (x : Queue). x.size) (queue_here s kept.queues r queue sized.queues has) ∙ same ∙ sized.size r has made))
-      (λ (off : is_ring q r ≡ false). ap (λ (x : Queue). x.size) (queue_else s kept.queues q r queue made_q made has_q has off) ∙ sized.size q has_q made_q)
-      (same_or q r)
+    (λ (e : q ≡ r). subst (λ x. (get_or (set kept.queues (place s r) queue) (place s x) no_queue).size ≡ size_of s x) (sym e)
+    (ap (λ (x : Queue). x.size) (queue_here s kept.queues r queue sized.queues has) ∙ same ∙ sized.size r has made))
+    (λ (off : is_ring q r ≡ false). ap (λ (x : Queue). x.size) (queue_else s kept.queues q r queue made_q made has_q has off) ∙ sized.size q has_q made_q)
+    (same_or q r)
 
 length-strays : (s : Setting) (kept : Kept) (r : Ring) (es : List XdpDesc) → length (strays_after s kept r es) ≡ length kept.strays
 length-strays s kept (Fill d) es = refl
@@ -172,21 +173,21 @@ sized_after s line kept (Submit r es) h may =
 sized_after s line kept (Peek r n es) h may =
     let queue = queue_at s kept r in let pk = peeked r queue.first line in let b = length (standing queue) in
     sized_queues s kept r (shown_queue queue es) (shown_frames s line r queue kept.frames es) (strays_after s kept r es) h may.0 may.1 refl
-      (length-marked s pk queue.held (take b es) (marked s pk (queue.held + length (take b es)) (drop b es) kept.frames)
-        ∙ length-marked s pk (queue.held + length (take b es)) (drop b es) kept.frames)
-      (length-strays s kept r es)
+    (length-marked s pk queue.held (take b es) (marked s pk (queue.held + length (take b es)) (drop b es) kept.frames)
+    ∙ length-marked s pk (queue.held + length (take b es)) (drop b es) kept.frames)
+    (length-strays s kept r es)
 sized_after s line kept (Release r n) h may = sized_queues s kept r (released (queue_at s kept r) n) kept.frames kept.strays h may.0 may.1 refl refl refl
 sized_after s line kept (Cancel r n) h may =
     let queue = queue_at s kept r in
     let made_kept : Kept = record kept { ends = set kept.ends (place s r) (record (end_at s kept r) { room = (end_at s kept r).room - n; sure = (end_at s kept r).sure + n }) } in
     let unmade_kept : Kept = record kept { frames = marked s (again r line) 0 (last_held queue n) kept.frames; queues = set kept.queues (place s r) (record queue { held = queue.held - n; again = line }) } in
     ⊎_elim
-      (λ (made : is_made r ≡ true). subst (IsSized s) (sym (is_true (is_made r) made_kept unmade_kept made))
-        (sized_ends s kept r (record (end_at s kept r) { room = (end_at s kept r).room - n; sure = (end_at s kept r).sure + n }) h))
-      (λ (unmade : is_made r ≡ false). subst (IsSized s) (sym (is_false (is_made r) made_kept unmade_kept unmade))
-        (sized_queues s kept r (record queue { held = queue.held - n; again = line }) (marked s (again r line) 0 (last_held queue n) kept.frames) kept.strays h may.0 unmade refl
-          (length-marked s (again r line) 0 (last_held queue n) kept.frames) refl))
-      (cases_Bool (is_made r))
+    (λ (made : is_made r ≡ true). subst (IsSized s) (sym (is_true (is_made r) made_kept unmade_kept made))
+    (sized_ends s kept r (record (end_at s kept r) { room = (end_at s kept r).room - n; sure = (end_at s kept r).sure + n }) h))
+    (λ (unmade : is_made r ≡ false). subst (IsSized s) (sym (is_false (is_made r) made_kept unmade_kept unmade))
+    (sized_queues s kept r (record queue { held = queue.held - n; again = line }) (marked s (again r line) 0 (last_held queue n) kept.frames) kept.strays h may.0 unmade refl
+    (length-marked s (again r line) 0 (last_held queue n) kept.frames) refl))
+    (cases_Bool (is_made r))
 
 -- ---- one call more
 

@@ -1,20 +1,19 @@
 -- What a Peek is answered, by its parts.
-use Rattle.std.proofs.Common.{◌≡◌, ℕ, ◌+◌, ◌-◌, ◌<◌, ◌≤◌, min, Bool, true, false, Option, List, [], ◌∷◌, ◌++◌, length, take, drop, set, refl, sym, ap, ◌∙◌, arith, length-drop}
+use Rattle.std.proofs.Common.{◌≡◌, ℕ, ◌+◌, ◌≤◌, min, false, List, ◌++◌, length, take, drop, set, refl, sym, ap, ◌∙◌, arith, length-drop}
 use Rattle.std.proofs.lemmas.List.{take_min, drop_min, length-take}
 use Rattle.xsk_umem.specs.declared.batch.XdpDesc.{XdpDesc}
 use Rattle.xsk_model.specs.declared.call.Ring.{Ring}
 use Rattle.xsk_model.specs.declared.call.Ring.TheVariants.{Fill, Comp, Rx, Tx}
-use Rattle.xsk_side.specs.Setting.{Setting, HasRing, size_of, pair_of}
+use Rattle.xsk_side.specs.Setting.{Setting, HasRing, pair_of}
 use Rattle.xsk_side.specs.Entries.{times}
 use Rattle.xsk_side.specs.Object.{is_made}
 use Rattle.xsk_side.specs.Legal.{MayCome}
-use Rattle.xsk_side.specs.Local.{FitsEntries}
 use Rattle.xsk_side.specs.declared.call.Call.{Call}
 use Rattle.xsk_side.specs.declared.call.Call.TheVariants.{Peek}
 use Rattle.xsk_judge.specs.declared.why.Why.{Why}
 use Rattle.xsk_judge.specs.declared.why.Why.TheVariants.{Rule, Kernel, TooMany}
 use Rattle.xsk_judge.specs.Kept.{Queue, Kept, place, queue_at, strays_at, standing}
-use Rattle.xsk_judge.specs.Judging.{IsFor, AreNew, CanCome, Agrees, IsDenial, IsReason, MayCall, MayAnswer, after, come_after, given_in, held_after, marked, peeked, strays_come}
+use Rattle.xsk_judge.specs.Judging.{IsFor, CanCome, Agrees, IsDenial, IsReason, MayCall, MayAnswer, after, come_after, given_in, held_after, marked, peeked, strays_come}
 
 may_come : (s : Setting) (kept : Kept) (r : Ring) (es : List XdpDesc) → CanCome s kept r es → MayCome s (given_in kept.frames) (strays_at kept (pair_of s r)) r es
 may_come s kept (Fill d) es h = tt
@@ -82,7 +81,7 @@ peek_is s line kept r n again es made is =
   where
     same : (r : Ring) → is_made r ≡ false
         → peek_parts s line kept r (queue_at s kept r) (take (length (standing (queue_at s kept r))) es) (drop (length (standing (queue_at s kept r))) es)
-          (length (take (length (standing (queue_at s kept r))) es)) (length es) ≡ after s line kept (Peek r n es)
+        (length (take (length (standing (queue_at s kept r))) es)) (length es) ≡ after s line kept (Peek r n es)
     same (Fill d) h = absurd (cc)
     same (Comp d) h = refl
     same (Rx k) h = refl

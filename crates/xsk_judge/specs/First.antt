@@ -1,5 +1,5 @@
 -- What a judge keeps before the first call. The form is this project's own.
-use Rattle.std.specs.Prelude.{ℕ, List, [], unwrap_or}
+use Rattle.std.specs.Prelude.{[], unwrap_or}
 use Rattle.xsk_side.specs.declared.setting.Pair.{Pair}
 use Rattle.xsk_side.specs.declared.setting.Socket.{Socket}
 use Rattle.xsk_judge.specs.declared.known.End.{End}

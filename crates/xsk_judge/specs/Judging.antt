@@ -1,6 +1,6 @@
 -- One call by what is kept: whether the program may make it, whether a kernel may answer so, and what is kept behind it. The form is
 -- this project's own.
-use Rattle.std.specs.Prelude.{◌≡◌, ℕ, ◌+◌, ◌-◌, ◌^◌, ◌<◌, ◌≤◌, ◌⊎◌, max, nat_lt, Bool, true, false, ◌&&◌, ◌||◌, not, IsTrue, All, if◌then◌else◌, Option, Some, List, [], ◌∷◌, ◌++◌, length, take, drop}
+use Rattle.std.specs.Prelude.{◌≡◌, ℕ, ◌+◌, ◌-◌, ◌^◌, ◌<◌, ◌≤◌, ◌⊎◌, max, nat_lt, Bool, true, false, ◌||◌, not, IsTrue, All, if◌then◌else◌, Option, Some, List, [], ◌∷◌, ◌++◌, length, take, drop}
 use Rattle.std.specs.List.{slice_index_or, slice_set}
 use Rattle.xsk_umem.specs.declared.batch.XdpDesc.{XdpDesc}
 use Rattle.xsk_model.specs.declared.call.Ring.{Ring}
@@ -8,20 +8,19 @@ use Rattle.xsk_model.specs.declared.call.Ring.TheVariants.{Fill, Comp, Rx, Tx}
 use Rattle.xsk_model.specs.Descriptor.{is_inside}
 use Rattle.xsk_side.specs.Setting.{Setting, HasRing, size_of, pair_of}
 use Rattle.xsk_side.specs.Entries.{frame, times, strays_in}
-use Rattle.xsk_side.specs.Object.{is_made, ring_of, granted}
+use Rattle.xsk_side.specs.Object.{is_made, granted}
 use Rattle.xsk_side.specs.Legal.{IsReceived, IsCompleted}
 use Rattle.xsk_side.specs.Local.{FitsAnswer, FitsEntries, sure_answer, new_of}
 use Rattle.xsk_side.specs.declared.call.Answer.{Answer}
 use Rattle.xsk_side.specs.declared.call.Answer.TheVariants.{Granted, Full, Refused}
 use Rattle.xsk_side.specs.declared.call.Call.{Call}
 use Rattle.xsk_side.specs.declared.call.Call.TheVariants.{Reserve, Free, Submit, Peek, Release, Cancel}
-use Rattle.xsk_judge.specs.declared.known.Place.{Place}
-use Rattle.xsk_judge.specs.declared.known.Place.TheVariants.{Start, Peeked, Given, Again}
+use Rattle.xsk_judge.specs.declared.known.Place.TheVariants.{Peeked, Given, Again}
 use Rattle.xsk_judge.specs.declared.known.Known.{Known}
 use Rattle.xsk_judge.specs.declared.known.End.{End}
 use Rattle.xsk_judge.specs.declared.why.Why.{Why}
 use Rattle.xsk_judge.specs.declared.why.Why.TheVariants.{Rule, Kernel, TooMany}
-use Rattle.xsk_judge.specs.Kept.{Queue, Kept, is_mine, given_by, is_as, numbered, known_in, place, end_at, queue_at, strays_at, standing, with_end, with_queue, with_strays}
+use Rattle.xsk_judge.specs.Kept.{Queue, Kept, is_mine, given_by, is_as, numbered, known_in, place, end_at, queue_at, strays_at, standing, with_end, with_queue}
 
 -- ---- sizes
 
@@ -152,7 +151,7 @@ shown_queue queue entries = record queue { entries = queue.entries ++ new_of (st
 abbrev pub shown_frames : Setting → ℕ → Ring → Queue → List Known → List XdpDesc → List Known
 shown_frames s line r queue frames entries =
     marked s (peeked r queue.first line) queue.held (take (length (standing queue)) entries)
-      (marked s (peeked r queue.first line) (queue.held + length (take (length (standing queue)) entries)) (new_of (standing queue) entries) frames)
+    (marked s (peeked r queue.first line) (queue.held + length (take (length (standing queue)) entries)) (new_of (standing queue) entries) frames)
 
 abbrev pub strays_after : Setting → Kept → Ring → List XdpDesc → List ℕ
 strays_after s kept (Fill d) entries = kept.strays

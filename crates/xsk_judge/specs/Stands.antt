@@ -1,7 +1,6 @@
 -- The calls for which a judge stands: they are possible, and what it keeps is what they leave. Lists have the latest call first.
-use Rattle.std.specs.Prelude.{◌≡◌, ℕ, ◌+◌, ◌^◌, ◌<◌, ◌≤◌, nat_lt, Bool, true, false, IsTrue, if◌then◌else◌, List, [], ◌∷◌, ◌++◌, length, map}
+use Rattle.std.specs.Prelude.{◌≡◌, ℕ, ◌+◌, ◌^◌, ◌<◌, ◌≤◌, Bool, true, false, if◌then◌else◌, List, [], ◌∷◌, ◌++◌, length, map}
 use Rattle.std.specs.List.{slice_index_or}
-use Rattle.xsk_umem.specs.declared.batch.XdpDesc.{XdpDesc}
 use Rattle.xsk_model.specs.declared.call.Ring.{Ring}
 use Rattle.xsk_model.specs.declared.call.Ring.TheVariants.{Tx}
 use Rattle.xsk_side.specs.Setting.{Setting, HasRing, pair_of}
@@ -10,7 +9,7 @@ use Rattle.xsk_side.specs.Object.{is_made}
 use Rattle.xsk_side.specs.Own.{Held, entry_of, room_of, held_of, put_back, has_frame}
 use Rattle.xsk_side.specs.Legal.{IsLegal}
 use Rattle.xsk_side.specs.Possible.{Possible}
-use Rattle.xsk_side.specs.Local.{sure_of, back_of, given_of, strays_given, FitsReply}
+use Rattle.xsk_side.specs.Local.{sure_of, back_of, given_of, strays_given}
 use Rattle.xsk_side.specs.declared.call.Party.TheVariants.{Program}
 use Rattle.xsk_side.specs.declared.call.Call.{Call}
 use Rattle.xsk_side.specs.declared.call.Call.TheVariants.{Reserve, Free, Submit, Peek, Release, Cancel}
@@ -53,7 +52,7 @@ pub record IsQueue (s : Setting) (calls : List Call) (frames : List Known) (r : 
   pub entries : queue.entries ≡ map entry_of (held_of s r calls) ++ back_of s r calls
   pub held : queue.held ≡ length (held_of s r calls)
   pub latest : (i : ℕ) (h : Held) → i < queue.held
-    → is_latest s frames r (numbered queue.first i) (slice_index_or (held_of s r calls) i h).entry ≡ (slice_index_or (held_of s r calls) i h).untouched
+      → is_latest s frames r (numbered queue.first i) (slice_index_or (held_of s r calls) i h).entry ≡ (slice_index_or (held_of s r calls) i h).untouched
 
 pub record StandsFor (s : Setting) (kept : Kept) (lines : List Line) : Type 0 where
   pub possible : Possible s (calls_of lines)

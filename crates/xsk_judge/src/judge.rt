@@ -8,11 +8,10 @@ ghost use Rattle.xsk_judge.specs.Kept.{place, queue_at, standing};
 ghost use Rattle.xsk_judge.specs.Stands.{Line, IsReady, IsKnown, IsWhy, StandsFor};
 ghost use Rattle.xsk_judge.specs.Judging.{IsFor, IsRule, IsDenial, IsReason, MayCall, MayAnswer, Agrees, CanCome, after, come_after, held_after, reserved, told_free};
 
-use crate::first;
 use crate::known::{End, Known, Place};
-use crate::marks;
 use crate::queue::Queue;
 use crate::why::{Denial, Rule, Why};
+use crate::{first, marks};
 use std::alloc::Global;
 use std::marker::Model;
 use xsk_model::Ring;
@@ -91,10 +90,18 @@ impl Judge {
         ensures why { IfErr result (λ why. IsReason setting.now self.old call.now why) }
     {
         match call {
-            Call::Reserve(ring, places, answer) => self.reserve(setting, line, *ring, *places, *answer),
+            Call::Reserve(ring, places, answer) => self.reserve(
+                setting, line, *ring, *places, *answer,
+            ),
             Call::Free(ring, asked, places) => self.free(setting, line, *ring, *asked, *places),
             Call::Submit(ring, entries) => self.submit(setting, line, *ring, entries.as_slice()),
-            Call::Peek(ring, asked, entries) => self.peek(setting, line, *ring, *asked, entries.as_slice()),
+            Call::Peek(ring, asked, entries) => self.peek(
+                setting,
+                line,
+                *ring,
+                *asked,
+                entries.as_slice(),
+            ),
             Call::Release(ring, count) => self.release(setting, *ring, *count),
             Call::Cancel(ring, count) => self.cancel(setting, line, *ring, *count),
         }
@@ -132,7 +139,14 @@ impl Judge {
         }
     }
 
-    fn reserve(&mut self, setting: &Setting, line: u64, ring: Ring, places: u32, answer: Answer) -> Result<(), Why>
+    fn reserve(
+        &mut self,
+        setting: &Setting,
+        line: u64,
+        ring: Ring,
+        places: u32,
+        answer: Answer,
+    ) -> Result<(), Why>
         requires { IsFor setting.now self.old }
         ensures ok { IfOk result (λ _. MayCall setting.now self.old (Reserve ring places answer) × MayAnswer setting.now self.old (Reserve ring places answer) × (self.new ≡ after setting.now line self.old (Reserve ring places answer))) }
         ensures why { IfErr result (λ why. IsReason setting.now self.old (Reserve ring places answer) why) }
@@ -148,7 +162,14 @@ impl Judge {
         Ok(())
     }
 
-    fn free(&mut self, setting: &Setting, line: u64, ring: Ring, asked: u32, places: u32) -> Result<(), Why>
+    fn free(
+        &mut self,
+        setting: &Setting,
+        line: u64,
+        ring: Ring,
+        asked: u32,
+        places: u32,
+    ) -> Result<(), Why>
         requires { IsFor setting.now self.old }
         ensures ok { IfOk result (λ _. MayCall setting.now self.old (Free ring asked places) × MayAnswer setting.now self.old (Free ring asked places) × (self.new ≡ after setting.now line self.old (Free ring asked places))) }
         ensures why { IfErr result (λ why. IsReason setting.now self.old (Free ring asked places) why) }
@@ -164,7 +185,13 @@ impl Judge {
         Ok(())
     }
 
-    fn submit(&mut self, setting: &Setting, line: u64, ring: Ring, entries: &[XdpDesc]) -> Result<(), Why>
+    fn submit(
+        &mut self,
+        setting: &Setting,
+        line: u64,
+        ring: Ring,
+        entries: &[XdpDesc],
+    ) -> Result<(), Why>
         requires { IsFor setting.now self.old }
         ensures ok { IfOk result (λ _. MayCall setting.now self.old (Submit ring entries.now) × MayAnswer setting.now self.old (Submit ring entries.now) × (self.new ≡ after setting.now line self.old (Submit ring entries.now))) }
         ensures why { IfErr result (λ why. IsReason setting.now self.old (Submit ring entries.now) why) }
@@ -195,7 +222,14 @@ impl Judge {
         Ok(())
     }
 
-    fn peek(&mut self, setting: &Setting, line: u64, ring: Ring, asked: u32, entries: &[XdpDesc]) -> Result<(), Why>
+    fn peek(
+        &mut self,
+        setting: &Setting,
+        line: u64,
+        ring: Ring,
+        asked: u32,
+        entries: &[XdpDesc],
+    ) -> Result<(), Why>
         requires { IsFor setting.now self.old }
         ensures ok { IfOk result (λ _. MayCall setting.now self.old (Peek ring asked entries.now) × MayAnswer setting.now self.old (Peek ring asked entries.now) × (self.new ≡ after setting.now line self.old (Peek ring asked entries.now))) }
         ensures why { IfErr result (λ why. IsReason setting.now self.old (Peek ring asked entries.now) why) }
@@ -219,7 +253,15 @@ impl Judge {
     }
 
     /// The program holds entries that stood in the ring before, and new ones.
-    fn hold(&mut self, setting: &Setting, line: u64, ring: Ring, at: usize, known: &[XdpDesc], new: &[XdpDesc])
+    fn hold(
+        &mut self,
+        setting: &Setting,
+        line: u64,
+        ring: Ring,
+        at: usize,
+        known: &[XdpDesc],
+        new: &[XdpDesc],
+    )
         requires size { length self.old.frames ≡ setting.now.geometry.frames }
         requires place { (at ≡ place setting.now ring) × (at < length self.old.queues) }
         requires standing { (queue_at setting.now self.old ring).held + length known.now ≤ length (queue_at setting.now self.old ring).entries }
@@ -229,7 +271,15 @@ impl Judge {
     {
         let first = self.queues[at].first();
         let held = self.queues[at].held();
-        marks::show(self.frames.as_mut_slice(), setting, line, ring, first, held, known);
+        marks::show(
+            self.frames.as_mut_slice(),
+            setting,
+            line,
+            ring,
+            first,
+            held,
+            known,
+        );
         self.queues[at].show(known.len() as u32, new);
     }
 
@@ -255,10 +305,14 @@ impl Judge {
     {
         let frames = self.frames.as_mut_slice();
         match ring {
-            Ring::Rx(socket) => marks::receive(frames, setting, line, socket, first, at, skipped, entries),
+            Ring::Rx(socket) => marks::receive(
+                frames, setting, line, socket, first, at, skipped, entries,
+            ),
             Ring::Comp(pair) => {
                 let strays = self.strays[pair as usize];
-                match marks::complete(frames, setting, line, pair, first, at, skipped, strays, entries) {
+                match marks::complete(
+                    frames, setting, line, pair, first, at, skipped, strays, entries,
+                ) {
                     Ok(left) => self.strays[pair as usize] = left,
                     Err(why) => return Err(why),
                 }
@@ -301,10 +355,23 @@ impl Judge {
         if count > held {
             return Err(Why::Rule(Rule::Cancel(held)));
         }
-        if let Err(why) = marks::are_latest(self.frames.as_slice(), setting, ring, &self.queues[at], count) {
+        if let Err(why) = marks::are_latest(
+            self.frames.as_slice(),
+            setting,
+            ring,
+            &self.queues[at],
+            count,
+        ) {
             return Err(why);
         }
-        marks::put_back(self.frames.as_mut_slice(), setting, line, ring, &self.queues[at], count);
+        marks::put_back(
+            self.frames.as_mut_slice(),
+            setting,
+            line,
+            ring,
+            &self.queues[at],
+            count,
+        );
         self.queues[at].put_back(count, line);
         Ok(())
     }

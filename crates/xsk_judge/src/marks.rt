@@ -26,7 +26,12 @@ fn mark(frames: &mut [Known], setting: &Setting, entry: XdpDesc, known: Known)
 }
 
 /// The program gives away the frame that the entry names, if it names one. The frame must be its, and else it is told where it is.
-fn give_one(frames: &mut [Known], setting: &Setting, entry: XdpDesc, known: Known) -> Result<(), Known>
+fn give_one(
+    frames: &mut [Known],
+    setting: &Setting,
+    entry: XdpDesc,
+    known: Known,
+) -> Result<(), Known>
     requires { length frames.old ≡ setting.now.geometry.frames }
     ensures ok { IfOk result (λ _. (frames.new ≡ set_known setting.now frames.old entry known) × IsMineAt setting.now frames.old entry) }
     ensures not_mine { IfErr result (λ there. (IsMineAt setting.now frames.old entry → ⊥) × (there ≡ known_in frames.old (frame_number setting.now entry))) }
@@ -240,7 +245,13 @@ pub(crate) fn count_strays(setting: &Setting, entries: &[XdpDesc]) -> u64
 }
 
 /// The program puts the last so many entries back that it holds: each must be the last by which it got its frame.
-pub(crate) fn are_latest(frames: &[Known], setting: &Setting, ring: Ring, queue: &Queue, count: u32) -> Result<(), Why>
+pub(crate) fn are_latest(
+    frames: &[Known],
+    setting: &Setting,
+    ring: Ring,
+    queue: &Queue,
+    count: u32,
+) -> Result<(), Why>
     requires size { length frames.now ≡ setting.now.geometry.frames }
     requires few { count ≤ queue.now.held }
     ensures ok { IfOk result (λ _. AreLatest setting.now frames.now ring queue.now count) }
@@ -260,7 +271,13 @@ pub(crate) fn are_latest(frames: &[Known], setting: &Setting, ring: Ring, queue:
 }
 
 /// The program has the entry's frame by this entry, if it names one; else it is told where the frame is.
-fn latest(frames: &[Known], setting: &Setting, ring: Ring, number: u32, entry: XdpDesc) -> Result<(), Known>
+fn latest(
+    frames: &[Known],
+    setting: &Setting,
+    ring: Ring,
+    number: u32,
+    entry: XdpDesc,
+) -> Result<(), Known>
     requires { length frames.now ≡ setting.now.geometry.frames }
     ensures ok { IfOk result (λ _. is_latest setting.now frames.now ring number entry ≡ true) }
     ensures passed { IfErr result (λ there. (is_latest setting.now frames.now ring number entry ≡ false) × (there ≡ known_in frames.now (frame_number setting.now entry))) }
@@ -275,7 +292,14 @@ fn latest(frames: &[Known], setting: &Setting, ring: Ring, number: u32, entry: X
 }
 
 /// Keeps of these entries' frames that they stand in the ring again.
-pub(crate) fn put_back(frames: &mut [Known], setting: &Setting, line: u64, ring: Ring, queue: &Queue, count: u32)
+pub(crate) fn put_back(
+    frames: &mut [Known],
+    setting: &Setting,
+    line: u64,
+    ring: Ring,
+    queue: &Queue,
+    count: u32,
+)
     requires size { length frames.old ≡ setting.now.geometry.frames }
     requires few { count ≤ queue.now.held }
     ensures { frames.new ≡ marked setting.now (again ring line) 0 (last_held queue.now count) frames.old }

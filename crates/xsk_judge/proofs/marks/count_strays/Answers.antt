@@ -1,6 +1,4 @@
-use Rattle.std.proofs.Common.{rules, arith}
-use Rattle.xsk_side.specs.Entries.{strays_in}
-use Rattle.xsk_judge.proofs.Coming.{strays_more, strays_step}
+use Rattle.xsk_judge.proofs.Coming.{strays_step}
 use Rattle.xsk_judge.proofs.marks.count_strays.Goals as goal
 
 pub loop-i-preserved : goal.loop-i-preserved

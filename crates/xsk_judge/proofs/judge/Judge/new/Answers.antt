@@ -1,5 +1,4 @@
-use Rattle.std.proofs.Common.{rules, ◌≡◌, replicate, length, sym, ap, ◌∙◌}
-use Rattle.xsk_judge.specs.declared.known.Place.TheVariants.{Start}
+use Rattle.std.proofs.Common.{rules}
 use Rattle.xsk_judge.specs.Kept.{Kept}
 use Rattle.xsk_judge.proofs.Beginning.{IsFirst, ready_first, stands_first}
 use Rattle.xsk_judge.proofs.judge.Judge.new.Goals as goal

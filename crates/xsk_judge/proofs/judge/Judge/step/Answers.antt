@@ -1,4 +1,3 @@
-use Rattle.std.proofs.Common.{rules}
 use Rattle.xsk_judge.proofs.Ready.{ready_for, ready_after, judged, why_not}
 use Rattle.xsk_judge.proofs.judge.Judge.step.Goals as goal
 
