@@ -11,12 +11,13 @@ import traceback
 import closing  # noqa: F401
 import library  # noqa: F401
 import receiving  # noqa: F401
+import recording  # noqa: F401
 import sending  # noqa: F401
 import setting_up  # noqa: F401
 from cases import CASES
 from linux import bare, own_namespace
 
-SECONDS = 30
+SECONDS = 60
 
 
 def why_not():

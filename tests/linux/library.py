@@ -1,6 +1,7 @@
 """What libxdp makes and takes away (libxdp.so.1), and what the program does that it loads."""
 
 import ctypes
+import errno
 import mmap
 import os
 import subprocess
@@ -105,6 +106,23 @@ def deleted_by_libxdp():
     yield "xsk_umem__delete", library.calls.xsk_umem__delete(library.umem), 0
     yield "sockets", len(xdp_sockets()), 0
     yield "another one on the queue then", eventually(lambda: errno_of(Xsk, Umem()), "ok"), "ok"
+
+
+@case("SOCKETS.md", "libxdp shares with the UMEM's first socket: a second socket of another queue is refused")
+def shared_by_libxdp():
+    """xsk_socket__create_shared twice on the queue of the first socket, and twice on another."""
+    if missing():
+        return
+    veth(queues=2)
+    library = Library()
+    library.make_umem()
+    library.make_socket()
+    config = SocketConfig(16, 16, INHIBIT_PROGRAM, 0, COPY)
+    fill, completion = Ring(), Ring()
+    for what, queue, wanted in (("the first one's queue, again", 0, 0), ("another queue", 1, 0), ("that queue again", 1, -errno.EINVAL)):
+        rings = (ctypes.byref(Ring()), ctypes.byref(Ring()), ctypes.byref(fill), ctypes.byref(completion))
+        yield what, library.calls.xsk_socket__create_shared(ctypes.byref(ctypes.c_void_p()), b"v0", queue, library.umem, *rings,
+                                                            ctypes.byref(config)), wanted
 
 
 @case("KERNEL.md", "libxdp's own program passes what finds no socket to the stack")

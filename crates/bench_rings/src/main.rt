@@ -24,7 +24,6 @@ use std::process::ExitCode;
 use std::rt::Env;
 use std::thread::Threads;
 use std::{env, thread};
-use xsk_args::parse_number;
 use xsk_rings::CheckedPass;
 use xsk_table::{Pass, Passes, Shared};
 
@@ -56,7 +55,7 @@ fn words_of<R: Env + AllocGlobal>(rt: &R) -> Option<(u32, Work)> {
     let [count, work] = words.as_slice() else {
         return None;
     };
-    Some((parse_number(count)?, work_of(work)?))
+    Some((number_of(count)?, work_of(work)?))
 }
 
 fn work_of(word: &str) -> Option<Work> {
@@ -69,7 +68,11 @@ fn work_of(word: &str) -> Option<Work> {
     if word == "counts" {
         return Some(Work::Counts);
     }
-    Some(Work::Moves(parse_number(word)?))
+    Some(Work::Moves(number_of(word)?))
+}
+
+fn number_of(word: &str) -> Option<u32> {
+    word.parse::<u32>().ok()
 }
 
 /// Whether the work was done so often.

@@ -1,9 +1,16 @@
 //! xsk_bench: a forwarder of one's own beside the library's drivers. What port 0 receives goes out on port 1 where it is IPv4, and
 //! each frame comes home. The same is run with a mistake: it reserves no place on TX before it submits there.
-ghost use Rattle.std.specs.Prelude.{◌≡◌, All, IfOk, length};
+ghost use Rattle.std.specs.Prelude.{◌≡◌, ◌≤◌, All, IfOk, IsSome, List, Some, length, slice_get};
+ghost use Rattle.std.specs.List.{concat};
+ghost use Rattle.xsk_umem.specs.Frame.{Frame};
+ghost use Rattle.xsk_model.specs.Entry.{Entry, own};
 ghost use Rattle.xsk_model.specs.Opening.{AreFrames};
 ghost use Rattle.xsk_prog.specs.Chain.{AllObey};
 ghost use Rattle.xsk_sim.specs.Shown.{HasShortPackets};
+ghost use Rattle.xsk_turns.specs.Sending.{sent_by_act};
+ghost use Rattle.xsk_turns.specs.Workers.{Setting, input_of};
+ghost use Rattle.xsk_bench.specs.Played.{HasPlayed, act_of};
+ghost use Rattle.xsk_bench.specs.declared.seat.Seat.{Seat};
 
 use crate::layouts::opened;
 use crate::runs::LAYOUT;
@@ -68,7 +75,9 @@ fn received(alloc: Global) -> Result<Vec<PacketList>>
 }
 
 /// The forwarder: the drivers run until they wait; then a packet on RX goes its way, or a frame on COMPLETION goes back to FILL.
-fn forward(bench: &mut Bench<'_>, reserves: bool) -> Result<()> {
+fn forward(bench: &mut Bench<'_>, reserves: bool) -> Result<()>
+    ensures room { bench.new.room ≡ bench.old.room }
+{
     for _ in 0..1_000 {
         bench.run_drivers(1_000)?;
         if let Some(item) = take(bench, Ring::Rx(0))? {
@@ -87,7 +96,9 @@ fn forward(bench: &mut Bench<'_>, reserves: bool) -> Result<()> {
 }
 
 /// Takes an item from a ring, if there is one.
-fn take(bench: &mut Bench<'_>, ring: Ring) -> Result<Option<Item>> {
+fn take(bench: &mut Bench<'_>, ring: Ring) -> Result<Option<Item>>
+    ensures room { bench.new.room ≡ bench.old.room }
+{
     let mut items = Batch::new();
     bench.serve(0, Ask::Peek(ring, 1), &mut items)?;
     let item = items.pop_front();
@@ -98,7 +109,9 @@ fn take(bench: &mut Bench<'_>, ring: Ring) -> Result<Option<Item>> {
 }
 
 /// Puts an item into a ring.
-fn put(bench: &mut Bench<'_>, ring: Ring, item: Item, reserves: bool) -> Result<()> {
+fn put(bench: &mut Bench<'_>, ring: Ring, item: Item, reserves: bool) -> Result<()>
+    ensures room { bench.new.room ≡ bench.old.room }
+{
     let mut items = Batch::new();
     if reserves && bench.serve(0, Ask::Reserve(ring, 1), &mut items)? != Answer::Granted {
         bail!("the ring is full");
@@ -126,14 +139,26 @@ fn is_ipv4(item: &Item) -> bool {
 }
 
 /// What was told the forwarder, what it did, and what was sent.
-fn tell<R: Print>(rt: &R, came: Result<()>, bench: &Bench<'_>) -> Result<()> {
+fn tell<R: Print>(rt: &R, came: Result<()>, bench: &Bench<'_>) -> Result<()>
+    requires room { bench.now.room ≡ record { packets = 16; bytes = 4096 } }
+{
     if let Err(error) = came {
         println!(rt; "told: {error}")?;
     }
     tell_calls(rt, bench)?;
-    let sent = bench.sent(1).context("there was room for all")?;
+    let sent = sent_by_port_1(bench).context("there was no room for all")?;
     println!(rt; "port 1 sent {} packets", sent.len())?;
     Ok(())
+}
+
+/// What port 1 sent. It is there where it fits the room of the opening, however many calls were made since.
+fn sent_by_port_1<'a>(bench: &'a Bench<'_>) -> Option<&'a PacketList>
+    requires room { bench.now.room ≡ record { packets = 16; bytes = 4096 } }
+    ensures there { (s : Setting) (frames : List Frame) (h : List Entry) (seat : Seat) → HasPlayed s frames h bench.now → slice_get bench.now.seats.items 1 ≡ Some seat
+        → length (sent_by_act s.config 1 (input_of s 1) (own 1 h) (act_of seat)) ≤ 16 → length (concat (sent_by_act s.config 1 (input_of s 1) (own 1 h) (act_of seat))) ≤ 4096
+        → IsSome result }
+{
+    bench.sent(1)
 }
 
 /// The calls of the application.

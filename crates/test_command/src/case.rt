@@ -1,40 +1,8 @@
-//! Instructions, and what those of a case have said so far.
+//! What the instructions of a case have said so far.
 
-use crate::lanes::Spread;
 use crate::text::text_of;
 use std::alloc::{AllocError, Global};
 use xsk_io::Fail;
-
-/// What a line says.
-pub(crate) enum Instruction<'a> {
-    Nothing,
-    Case(&'a str),
-    Run(&'a str),
-    Alone(&'a str),
-    Files(&'a str),
-    Meaning(&'a str),
-    Table(&'a str),
-    /// Something that a case keeps, by its name.
-    Setting(&'a str, &'a str),
-}
-
-impl<'a> Instruction<'a> {
-    pub(crate) fn of(line: &'a str) -> Instruction<'a> {
-        if line.is_empty() || line.starts_with('#') {
-            return Instruction::Nothing;
-        }
-        let (name, rest) = line.split_once(' ').unwrap_or((line, ""));
-        match name {
-            "case" => Instruction::Case(rest),
-            "run" => Instruction::Run(rest),
-            "alone" => Instruction::Alone(rest),
-            "files" => Instruction::Files(rest),
-            "meaning" => Instruction::Meaning(rest),
-            "table" => Instruction::Table(rest),
-            _ => Instruction::Setting(name, rest),
-        }
-    }
-}
 
 /// Bytes with a name.
 #[derive(Drop)]
@@ -82,7 +50,6 @@ pub(crate) struct Case {
     pub(crate) texts: Vec<Named>,
     pub(crate) inputs: Vec<String>,
     pub(crate) room: u32,
-    pub(crate) spread: Option<Spread>,
     pub(crate) next: Next,
 }
 
@@ -96,7 +63,6 @@ impl Case {
             texts: Vec::new(alloc),
             inputs: Vec::new(alloc),
             room: ROOM,
-            spread: None,
             next: Next::new(alloc),
         }
     }
@@ -141,7 +107,6 @@ impl Case {
                 Ok(true)
             }
             "fail" => self.add_fail(value),
-            "lanes" => Ok(self.set_spread(value)),
             "pair" => Ok(self.set_pair(value)),
             "writes" => {
                 self.next.tells_writes = true;
@@ -152,7 +117,7 @@ impl Case {
     }
 
     fn add_text(&mut self, alloc: Global, value: &str) -> Result<bool, AllocError> {
-        let (name, tokens) = value.split_once(' ').unwrap_or((value, "zeros:0"));
+        let (name, tokens) = value.split_once(' ').unwrap_or((value, ""));
         let Some(bytes) = text_of(alloc, tokens)? else {
             return Ok(false);
         };
@@ -190,11 +155,6 @@ impl Case {
         true
     }
 
-    fn set_spread(&mut self, value: &str) -> bool {
-        self.spread = spread_of(value);
-        self.spread.is_some()
-    }
-
     fn set_number(&mut self, name: &str, value: &str) -> bool {
         let Some(number) = number_of(value) else {
             return false;
@@ -218,11 +178,6 @@ fn fail_of(value: &str) -> Option<Fail> {
         "write" => Some(Fail::Write(number)),
         _ => None,
     }
-}
-
-fn spread_of(value: &str) -> Option<Spread> {
-    let (queues, sockets) = pair_of(value)?;
-    Some(Spread { queues, sockets })
 }
 
 /// Two numbers, parted by a space.

@@ -1,47 +1,40 @@
-//! Runs the commands of many cases over a bay in memory, and prints how each ended and what it left.
+//! Runs commands over a bay in memory of which calls fail, or take few bytes, or whose workers a gate holds, and prints how each
+//! ended and what it left. What files on disk show is in `tests/cases`.
 //!
 //! Each line of standard input is an instruction, whose first word says what it does:
 //!
 //! - `case NAME` begins a case, which has no texts and no inputs yet.
-//! - `text NAME TOKEN ..` names bytes (`text.rt` says what a token is).
+//! - `text NAME DIGITS ..` names bytes, in hexadecimal digits.
 //! - `inputs NAME ..` says the texts that the ports' inputs have.
 //! - `room N` says how many bytes an output takes, and the report; 65,536 where it isn't said.
-//! - `lanes QUEUES SOCKETS` has each output told lane by lane, where the order between lanes is free.
 //! - `fail open N`, `fail read N`, `fail write N`, `most N`, `pair WORKER WORKER`, `hold WORKER`, `writes` and `has FRONT` are
 //!   about the next run: a call that fails, the most bytes that a write takes, a gate, that its writes are told, and that of its
 //!   report only is told whether it has a line that begins so.
-//! - `run WORD ..` runs the command of these words, with threads for `forward`, `alone WORD ..` without, and `files WORD ..` over
-//!   the files of the folder.
+//! - `run WORD ..` runs the command of these words, with threads for `forward`, and `alone WORD ..` without.
 //! - `meaning WORD ..` tells what the words of `simulate` mean, and `table WORD ..` those of a smaller table of options.
-//!
-//! At the end it does what its own words say, as the program does, and ends with the status of that.
 //!
 //! Empty lines and those that begin with `#` say nothing.
 #![tactic(auto)]
 
 mod case;
 mod gate;
-mod lanes;
 mod run;
 mod show;
 mod table;
 mod text;
 
-use crate::case::{Case, Instruction};
-use crate::run::{run, run_alone, run_over_files};
+use crate::case::Case;
+use crate::run::{run, run_alone};
 use crate::table::{meaning, meaning_by_small_table};
 use anyhow::Result;
 use std::alloc::Global;
 use std::fmt::Write;
 use std::process::ExitCode;
-use std::rt::Files;
 use std::sync::Wait;
 use std::thread::Threads;
-use xsk_io::FileBay;
-use xsk_program::{answer, words_of};
 
 /// Does what a line says, and tells what is to be printed.
-fn follow<R: Files + Print + Threads + Wait + Sync>(
+fn answer<R: Threads + Wait + Sync>(
     rt: &R,
     host: &HostRuntime,
     alloc: Global,
@@ -49,23 +42,15 @@ fn follow<R: Files + Print + Threads + Wait + Sync>(
     line: &str,
     told: &mut String,
 ) -> Result<()> {
-    match Instruction::of(line) {
-        Instruction::Nothing => Ok(()),
-        Instruction::Case(name) => begin(alloc, case, name, told),
-        Instruction::Run(words) => {
-            run(rt, host, alloc, case, words, told)?;
-            case.forget();
-            Ok(())
-        }
-        Instruction::Alone(words) => {
-            run_alone(alloc, case, words, told)?;
-            case.forget();
-            Ok(())
-        }
-        Instruction::Files(words) => run_over_files(rt, host, alloc, words, told),
-        Instruction::Meaning(words) => meaning(alloc, case, words, told),
-        Instruction::Table(words) => meaning_by_small_table(alloc, words, told),
-        Instruction::Setting(name, value) => set(alloc, case, name, value, line, told),
+    let (name, rest) = line.split_once(' ').unwrap_or((line, ""));
+    match name {
+        "" | "#" => Ok(()),
+        "case" => begin(alloc, case, rest, told),
+        "run" => run(rt, host, alloc, case, rest, told),
+        "alone" => run_alone(alloc, case, rest, told),
+        "meaning" => meaning(alloc, case, rest, told),
+        "table" => meaning_by_small_table(alloc, rest, told),
+        _ => set(alloc, case, name, rest, line, told),
     }
 }
 
@@ -92,7 +77,7 @@ fn set(
 }
 
 /// Does what a line says, and prints what is told of it.
-fn play_line<R: Files + Print + Threads + Wait + Sync>(
+fn play_line<R: Print + Threads + Wait + Sync>(
     rt: &R,
     host: &HostRuntime,
     alloc: Global,
@@ -100,13 +85,13 @@ fn play_line<R: Files + Print + Threads + Wait + Sync>(
     line: &str,
 ) -> Result<()> {
     let mut told = String::new(alloc);
-    follow(rt, host, alloc, case, line, &mut told)?;
+    answer(rt, host, alloc, case, line, &mut told)?;
     print!(rt; "{told}")?;
     Ok(())
 }
 
-/// Does what the lines of standard input say.
-fn play<R: Input + Files + Print + AllocGlobal + Threads + Wait + Sync>(
+/// Does what the lines of standard input say. What a run on threads shows is given up by the host's runtime.
+fn play<R: Input + Print + AllocGlobal + Threads + Wait + Sync>(
     rt: &R,
     host: &HostRuntime,
 ) -> Result<()> {
@@ -120,10 +105,8 @@ fn play<R: Input + Files + Print + AllocGlobal + Threads + Wait + Sync>(
 }
 
 fn main(rt: HostRuntime) -> ExitCode {
-    if play(&rt, &rt).is_err() {
-        return ExitCode::from(1);
+    match play(&rt, &rt) {
+        Ok(()) => ExitCode::SUCCESS,
+        Err(_) => ExitCode::FAILURE,
     }
-    let mut bay = FileBay::new(&rt);
-    let ended = answer(&rt, rt.alloc(), words_of(&rt), &mut bay);
-    ended.into_exit_code(&rt)
 }

@@ -11,12 +11,11 @@ use crate::show::{Shown, show};
 use anyhow::{Result, anyhow};
 use std::alloc::{AllocError, Global};
 use std::fmt::Write;
-use std::rt::Files;
 use std::sync::Wait;
 use std::thread::Threads;
 use xsk_cli::{Ended, Status, ThreadRun, run_plain};
-use xsk_gate::{Gate, Open};
-use xsk_io::{Bay, FileBay, MemoryBay};
+use xsk_gate::Gate;
+use xsk_io::{Bay, MemoryBay};
 
 /// How a command ended, and what its run on threads shows.
 #[derive(Clone, Copy)]
@@ -25,18 +24,21 @@ struct Told {
     shown: Shown,
 }
 
-/// Runs the command of a line, with threads for `forward`, and tells how it ended and what it left.
+/// Runs the command of a line, with threads for `forward`, and tells how it ended and what it left. What was said of the run is
+/// forgotten.
 pub(crate) fn run<R: Threads + Wait + Sync>(
     rt: &R,
     host: &HostRuntime,
     alloc: Global,
-    case: &Case,
+    case: &mut Case,
     line: &str,
     told: &mut String,
 ) -> Result<()> {
     writeln!(told, "> {line}")?;
     let words = words_of(alloc, line)?;
-    run_words(rt, host, alloc, case, words.as_slice(), told)
+    run_words(rt, host, alloc, case, words.as_slice(), told)?;
+    case.forget();
+    Ok(())
 }
 
 fn run_words<R: Threads + Wait + Sync>(
@@ -71,37 +73,18 @@ fn run_held<R: Threads + Wait + Sync, B: Bay>(
     Ok(ended)
 }
 
-/// Runs the command of a line over files, and tells how it ended. What it reports is printed at once.
-pub(crate) fn run_over_files<R: Files + Print + Threads + Wait + Sync>(
-    rt: &R,
-    host: &HostRuntime,
+/// Runs the command of a line without threads, and tells how it ended and what it left.
+pub(crate) fn run_alone(
     alloc: Global,
+    case: &mut Case,
     line: &str,
     told: &mut String,
 ) -> Result<()> {
-    println!(rt; "> {line}")?;
-    let words = words_of(alloc, line)?;
-    let status = ended_over_files(rt, host, alloc, words.as_slice());
-    writeln!(told, "{status:?}, {}", status.exit_status())?;
-    Ok(())
-}
-
-/// How a command ends over files.
-fn ended_over_files<R: Files + Print + Threads + Wait + Sync>(
-    rt: &R,
-    host: &HostRuntime,
-    alloc: Global,
-    words: &[String],
-) -> Status {
-    let mut bay = FileBay::new(rt);
-    through(rt, host, alloc, words, &mut bay, &Open).status
-}
-
-/// Runs the command of a line without threads, and tells how it ended and what it left.
-pub(crate) fn run_alone(alloc: Global, case: &Case, line: &str, told: &mut String) -> Result<()> {
     writeln!(told, "> {line}")?;
     let words = words_of(alloc, line)?;
-    run_words_alone(alloc, case, words.as_slice(), told)
+    run_words_alone(alloc, case, words.as_slice(), told)?;
+    case.forget();
+    Ok(())
 }
 
 fn run_words_alone(alloc: Global, case: &Case, words: &[String], told: &mut String) -> Result<()> {

@@ -1,14 +1,10 @@
 //! How a command ended and what it left, as text.
 
 use crate::case::Case;
-use crate::lanes::{show_lanes, sum_of};
 use std::alloc::{AllocError, Global};
 use std::fmt::Write;
 use xsk_cli::Status;
 use xsk_io::{MemoryBay, Offer, Stream};
-
-/// The most bytes of an output that are told one by one.
-const MOST_TOLD: usize = 256;
 
 /// What a run on threads shows.
 #[derive(Clone, Copy)]
@@ -62,8 +58,7 @@ fn show_port(
     }
 }
 
-/// Tells an output in which something stands: by its lanes where the case asks for that, and else by the name of the text that it
-/// is, its bytes or their sum.
+/// Tells an output in which something stands: by the name of the text that it is, or its bytes.
 fn show_output(
     alloc: Global,
     case: &Case,
@@ -74,23 +69,10 @@ fn show_output(
     if text.is_empty() {
         return Ok(());
     }
-    if let Some(spread) = case.spread {
-        return show_lanes(port, text, spread, told);
-    }
     match case.name_of(text) {
         Some(name) => writeln!(told, "out{port} is {name}"),
-        None => show_bytes(alloc, port, text, told),
+        None => writeln!(told, "out{port} {}", hex::encode(alloc, text)?),
     }
-}
-
-/// Tells the bytes of an output, or, where they are many, their sum.
-fn show_bytes(alloc: Global, port: u32, text: &[u8], told: &mut String) -> Result<(), AllocError> {
-    if text.len() <= MOST_TOLD {
-        let digits = hex::encode(alloc, text)?;
-        return writeln!(told, "out{port} {digits}");
-    }
-    let sum = sum_of(text);
-    writeln!(told, "out{port} {} bytes, sum {sum:016x}", text.len())
 }
 
 /// Tells the report as it stands, or which of the fronts a line of it has.

@@ -1,3 +1,1 @@
 mod Resting
-pub mod Lists
-pub mod Writable

@@ -1,17 +1,11 @@
 //! The kinds of cases.
-use crate::bays::Bays;
-use crate::captures::Captures;
 use crate::descriptors::Descriptors;
 use crate::frames::Frames;
-use crate::generated::Generated;
-use crate::interfaces::Interfaces;
 use crate::layouts::Layouts;
 use crate::line::{Fault, Line, cut};
 use crate::locks::Locks;
 use crate::packed::Packed;
 use crate::packets::Packets;
-use crate::programs::Programs;
-use crate::reports::Reports;
 use crate::setups::Setups;
 use crate::told::Told;
 use std::alloc::Global;
@@ -38,16 +32,10 @@ fn go_through(alloc: Global, kind: &str, lines: &str, told: &mut Told) {
         "setup" => run(Setups::new(alloc), lines, told),
         "layout" => run(Layouts::new(alloc), lines, told),
         "descriptors" => run(Descriptors::new(alloc), lines, told),
-        "capture" => run(Captures::new(alloc), lines, told),
-        "pcapng" => run(Interfaces::new(alloc), lines, told),
         "lock" => run(Locks::new(alloc), lines, told),
-        "report" => run(Reports::new(alloc), lines, told),
         "frames" => run(Frames::new(alloc), lines, told),
         "packets" => run(Packets::new(alloc), lines, told),
         "words" => run(Packed, lines, told),
-        "program" => run(Programs::new(alloc), lines, told),
-        "generated" => run(Generated::new(alloc), lines, told),
-        "bay" => run(Bays::new(alloc), lines, told),
         _ => told.say(": no such kind"),
     }
 }

@@ -103,7 +103,7 @@ fn say(layout: &Layout, told: &mut Told) {
 }
 
 /// The regular configuration of a layout that is accepted, and all frames of its UMEM.
-pub fn set_up(alloc: Global, layout: &Layout) -> Result<(Config, Frames), Fault>
+fn set_up(alloc: Global, layout: &Layout) -> Result<(Config, Frames), Fault>
     ensures regular { IfOk result (λ made. IsRegular made.0) }
     ensures frames { IfOk result (λ made. AreFrames made.0.geometry made.1.items) }
 {
@@ -134,7 +134,7 @@ pub fn changed(layout: Layout, line: &mut Line<'_>) -> Result<Layout, Fault> {
 }
 
 /// Sets the field of a layout that has this name.
-pub fn change(layout: &mut Layout, name: &str, number: u32) -> Result<(), Fault> {
+fn change(layout: &mut Layout, name: &str, number: u32) -> Result<(), Fault> {
     match with_field(*layout, name, number) {
         Some(changed) => *layout = changed,
         None => return Err(Fault::BadLine),

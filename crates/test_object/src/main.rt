@@ -1,27 +1,20 @@
 //! Cases of the object and of the libraries round it, read from the standard input.
 //!
 //! First stand cases of the lower libraries: each begins with a line of its kind and its name, and ends with a blank line. Each other
-//! line is a call. It is written out again, and behind it what came of it. Behind all cases stand journals that are audited, and
-//! behind a line `# scripts` the scripts of calls on the object, on one thread and on a table that threads share, whose replies are
-//! printed once each.
+//! line is a call. It is written out again, and behind it what came of it. Behind a line `# scripts` stand scripts of calls on the
+//! object, on one thread and on a table that threads share, whose replies are printed once each.
 #![tactic(auto)]
 
-mod bays;
 mod blocks;
 mod bytes;
-mod captures;
 mod case;
 mod configs;
 mod descriptors;
 mod drawn;
 mod ending;
 mod frames;
-mod generated;
 mod hand;
-mod interfaces;
-mod journals;
 mod layouts;
-mod limits;
 mod line;
 mod locks;
 mod makers;
@@ -30,9 +23,7 @@ mod object;
 mod packed;
 mod packets;
 mod player;
-mod programs;
 mod reply;
-mod reports;
 mod run;
 mod runs;
 mod setup;
@@ -42,7 +33,6 @@ mod step;
 mod table;
 mod told;
 mod words;
-mod written;
 
 use crate::line::cut;
 use crate::told::Told;
@@ -62,13 +52,11 @@ fn print_told<R: Print>(rt: &R, told: Result<String, AllocError>) -> io::Result<
     }
 }
 
-/// What comes of all cases, journals and scripts.
+/// What comes of all cases and scripts.
 fn tell_all(alloc: Global, text: &str) -> Result<String, AllocError> {
-    let (values, scripts) = cut(text, "\n# scripts\n");
-    let (cases, journals) = cut(values, "\n# ");
+    let (cases, scripts) = cut(text, "\n# scripts\n");
     let mut told = Told::new(alloc);
     tell_cases(alloc, cases, &mut told);
-    tell_journals(alloc, journals, &mut told);
     tell_scripts(alloc, scripts, &mut told);
     told.into_text()
 }
@@ -78,15 +66,6 @@ fn tell_cases(alloc: Global, cases: &str, told: &mut Told) {
     for case in cases.split("\n\n") {
         if !case.is_empty() {
             case::tell(alloc, case, told);
-        }
-    }
-}
-
-/// Tells what the audit of each journal finds. An empty text is none.
-fn tell_journals(alloc: Global, journals: &str, told: &mut Told) {
-    for journal in journals.split("\n# ") {
-        if !journal.is_empty() {
-            journals::tell(alloc, journal, told);
         }
     }
 }

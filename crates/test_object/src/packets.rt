@@ -6,7 +6,6 @@
 ghost use Rattle.std.specs.Prelude.{◌≤◌, length};
 
 use crate::case::Case;
-use crate::interfaces::push;
 use crate::line::{Fault, Line};
 use crate::runs;
 use crate::told::Told;
@@ -57,7 +56,9 @@ impl Packets {
     }
 
     fn push(&mut self, line: &mut Line<'_>) -> Result<(), Fault> {
-        push(self.alloc, &mut self.list, line.word()?)
+        let packet = runs::parse(self.alloc, line.word()?)?;
+        self.list.push(packet.as_slice())?;
+        Ok(())
     }
 
     /// Makes a list of the same packets as spans of the same text.
@@ -92,7 +93,7 @@ impl Case for Packets {
     }
 }
 
-pub fn gaps_in(line: &mut Line<'_>) -> Result<Gaps, Fault> {
+fn gaps_in(line: &mut Line<'_>) -> Result<Gaps, Fault> {
     let (first, before_each) = line.two()?;
     Ok(Gaps { first, before_each })
 }
@@ -133,7 +134,7 @@ fn append_three(
     Ok(())
 }
 
-pub fn tell_packet(list: &PacketList, line: &mut Line<'_>, told: &mut Told) -> Result<(), Fault> {
+fn tell_packet(list: &PacketList, line: &mut Line<'_>, told: &mut Told) -> Result<(), Fault> {
     let number = line.number()?;
     if number >= list.len() {
         return Err(Fault::NotLegal);
@@ -143,7 +144,7 @@ pub fn tell_packet(list: &PacketList, line: &mut Line<'_>, told: &mut Told) -> R
 }
 
 /// How many packets there are, and how many bytes.
-pub fn tell_sizes(list: &PacketList, told: &mut Told) {
+fn tell_sizes(list: &PacketList, told: &mut Told) {
     told.number(list.len());
     told.say(" packets, ");
     told.long(list.bytes());

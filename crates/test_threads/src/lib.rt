@@ -1,14 +1,12 @@
 //! Tests of what data can't say: values that may be sent to other threads, threads that meet and move frames at once, and
-//! programs that are closures of one's own on threads; the bay over real files, folders, a device that is full, the standard
-//! output, and files whose calls are interrupted; and gates whose workers come one after the other.
+//! programs that are closures of one's own on threads; the bay over files whose calls are interrupted; and gates whose workers come
+//! one after the other.
 #![tactic(auto)]
 
 #[cfg(test)]
 mod circling;
 #[cfg(test)]
 mod crew;
-#[cfg(test)]
-mod files;
 #[cfg(test)]
 mod gates;
 #[cfg(test)]

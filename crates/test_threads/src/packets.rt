@@ -27,6 +27,13 @@ pub(crate) const ONE: Numbers = Numbers {
     count: 1,
 };
 
+/// 300 packets.
+pub(crate) const MANY: Numbers = Numbers {
+    first: 0,
+    step: 1,
+    count: 300,
+};
+
 /// 200 packets.
 pub(crate) const ALL: Numbers = Numbers {
     first: 0,
@@ -49,6 +56,14 @@ pub(crate) const ODD: Numbers = Numbers {
 };
 
 impl Numbers {
+    /// The first so many of these.
+    pub(crate) fn front(self, count: u32) -> Numbers {
+        Numbers {
+            count: self.count.min(count),
+            ..self
+        }
+    }
+
     /// The packet at a place.
     fn packet(self, place: u32) -> [u8; 60] {
         let steps = (place % 256) as u8;
@@ -68,21 +83,39 @@ impl Numbers {
     }
 }
 
-/// Whether a list has these packets, and where not all are wanted the first of them.
-fn is_sent(list: &PacketList, numbers: Numbers, whole: bool) -> bool {
-    if whole && list.len() != numbers.count {
-        return false;
-    }
-    numbers.begin_with(list)
+/// What a driver must have sent: the first of these packets, and no fewer than so many.
+#[derive(Clone, Copy)]
+pub(crate) struct Wanted {
+    numbers: Numbers,
+    least: u32,
 }
 
-/// Whether the drivers have sent these packets, or where not all are wanted the first of them.
-pub(crate) fn are_sent(lists: &[PacketList], wanted: &[Numbers], whole: bool) -> bool {
+impl Wanted {
+    /// All of these.
+    pub(crate) fn all(numbers: Numbers) -> Wanted {
+        Wanted {
+            numbers,
+            least: numbers.count,
+        }
+    }
+
+    /// The first of these, so many at least.
+    pub(crate) fn first(numbers: Numbers, least: u32) -> Wanted {
+        Wanted { numbers, least }
+    }
+
+    fn is_sent(self, list: &PacketList) -> bool {
+        self.least <= list.len() && self.numbers.begin_with(list)
+    }
+}
+
+/// Whether the drivers have sent what they must.
+pub(crate) fn are_sent(lists: &[PacketList], wanted: &[Wanted]) -> bool {
     if lists.len() != wanted.len() {
         return false;
     }
     for driver in 0..wanted.len() {
-        if !is_sent(&lists[driver], wanted[driver], whole) {
+        if !wanted[driver].is_sent(&lists[driver]) {
             return false;
         }
     }

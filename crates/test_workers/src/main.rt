@@ -9,13 +9,10 @@
 //!   the script. A line `asked` before it prints how often the driver's program was asked.
 //! - `run ORDER`: all workers in rounds, with what came of it. A further line `journal` prints all calls, and `find TEXT`
 //!   says whether the journal has the text.
-//! - `config`: the configuration. Further lines ask for its parts.
-//! - `traffic FRAMES`: sockets set up one by one, and the object opened over them.
 //! - `ends`: the ends of an application by hand, beside drivers of a table.
 #![tactic(auto)]
 
 mod attached;
-mod cells;
 mod ends;
 mod hand;
 mod layout;
@@ -27,7 +24,6 @@ mod rounds;
 mod script;
 mod shelf;
 mod texts;
-mod traffic;
 mod trouble;
 mod words;
 

@@ -1,10 +1,8 @@
 //! One script.
 
-use crate::cells::tell_config;
 use crate::ends::play_ends;
 use crate::played::play_hand;
 use crate::rounds::play_run;
-use crate::traffic::play_traffic;
 use crate::trouble::Trouble;
 use crate::words::Line;
 use std::alloc::{AllocError, Global};
@@ -54,8 +52,6 @@ fn play_work(
         "driver" => play_hand(alloc, true, lines, words, rest, text),
         "app" => play_hand(alloc, false, lines, words, rest, text),
         "run" => play_run(alloc, lines, words, rest, text),
-        "config" => tell_config(alloc, lines, rest, text),
-        "traffic" => play_traffic(alloc, words, rest, text),
         "ends" => play_ends(alloc, words, rest, text),
         _ => return Ok(false),
     };

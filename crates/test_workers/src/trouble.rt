@@ -13,8 +13,6 @@ pub(crate) enum Trouble {
     NoFrame,
     NoWorker,
     BadReply,
-    NoPlace,
-    BadSetup,
     Miscounted,
     Stalled(u64),
 }
@@ -28,8 +26,6 @@ impl Trouble {
             Trouble::NoFrame => "the frame isn't there",
             Trouble::NoWorker => "there is no such worker",
             Trouble::BadReply => "that reply can't come",
-            Trouble::NoPlace => "there is no such cell, ring or port",
-            Trouble::BadSetup => "the sockets can't be set up",
             Trouble::Miscounted => "a program counts other calls than its closure",
             Trouble::Stalled(_) => "stalled in round ",
         }

@@ -29,13 +29,6 @@ impl<'a> Line<'a> {
     }
 }
 
-pub(crate) fn number(word: &str) -> Result<u32, Trouble> {
-    match word.parse::<u32>() {
-        Ok(number) => Ok(number),
-        Err(_) => Err(Trouble::BadLine),
-    }
-}
-
 pub(crate) fn long_number(word: &str) -> Result<u64, Trouble> {
     match word.parse::<u64>() {
         Ok(number) => Ok(number),
@@ -43,11 +36,20 @@ pub(crate) fn long_number(word: &str) -> Result<u64, Trouble> {
     }
 }
 
-pub(crate) fn byte(word: &str) -> Result<u8, Trouble> {
-    match word.parse::<u8>() {
-        Ok(number) => Ok(number),
-        Err(_) => Err(Trouble::BadLine),
+pub(crate) fn number(word: &str) -> Result<u32, Trouble> {
+    let number = long_number(word)?;
+    if number > u64::from(u32::MAX) {
+        return Err(Trouble::BadLine);
     }
+    Ok(number as u32)
+}
+
+pub(crate) fn byte(word: &str) -> Result<u8, Trouble> {
+    let number = number(word)?;
+    if number > u32::from(u8::MAX) {
+        return Err(Trouble::BadLine);
+    }
+    Ok(number as u8)
 }
 
 pub(crate) fn one_number(words: &[&str]) -> Result<u32, Trouble> {

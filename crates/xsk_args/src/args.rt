@@ -108,7 +108,7 @@ fn fits_row(matches: &ArgMatches<'_>, row: OptionRow) -> bool
 }
 
 /// Whether an option that takes such values takes this one.
-fn takes_text(takes: Takes, text: &str) -> bool
+pub fn takes_text(takes: Takes, text: &str) -> bool
     ensures { result ≡ is_taken (asked takes) text.now }
 {
     match takes {

@@ -9,7 +9,7 @@ mod program;
 mod program_list;
 mod table;
 
-pub use args::{Args, parse};
+pub use args::{Args, parse, takes_text};
 pub use error::ArgsError;
 pub use number::parse_number;
 pub use program::{Program, parse_program};

@@ -15,10 +15,16 @@ pub enum Takes {
     AnyText,
 }
 
-/// An option that a command has.
+/// An option that a command has, and what is told of it to who asks. A reader of words looks at its name and at what it takes alone.
 #[derive(Clone, Copy)]
 pub struct OptionRow {
     /// The name without its two hyphens.
     pub name: &'static str,
     pub takes: Takes,
+    /// What it is, in a line.
+    pub about: &'static str,
+    /// Which values are accepted. A flag has none.
+    pub accepts: &'static str,
+    /// What stands where it isn't said.
+    pub unsaid: &'static str,
 }

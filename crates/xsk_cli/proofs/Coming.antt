@@ -1,6 +1,6 @@
 -- What words come to.
-use Rattle.std.proofs.Common.{◌≡◌, false, Option, Some, None, inl, inr, refl, sym, ◌∙◌, subst, arith}
-use Rattle.std.specs.Prelude.{Result, Err, unwrap_or}
+use Rattle.std.proofs.Common.{◌≡◌, false, Option, Some, None, inl, inr, refl, sym, ap, ◌∙◌, subst, arith}
+use Rattle.std.specs.Prelude.{Result, Ok, Err, IsErrAnd, unwrap_or}
 use Rattle.std.proofs.lemmas.Option.{same_Some}
 use Rattle.xsk_io.specs.declared.bay.Stream.{Stream}
 use Rattle.xsk_io.specs.declared.bay.Stream.TheVariants.{Report}
@@ -86,6 +86,11 @@ pub plan_comes : (planned : Option Plan) (plan : Plan) (old new : Moment) (statu
     → (HasLine status → IsSilent old new) → IsCaused old.faults new.faults status → NeverFalls old.faults new.faults → NoOthers old.faults new.faults status → Comes planned old new status
 plan_comes planned plan old new status is accepted begun ends silent cause falls others =
     plan_comes_to (λ p. Ends p old new status) planned plan old new status is accepted begun ends silent cause falls others
+
+-- an early return, whose error is made of another one
+pub err_is : {T : Type 0} (answer : Result T Status) (status : Status) → IsErrAnd answer (λ e. e ≡ status) → answer ≡ Err status
+err_is (Ok x) status is = absurd is
+err_is (Err e) status is = ap Err is
 
 -- an answer with such a status
 pub comes_as : (answer : Result Unit Status) (status : Status) (planned : Option Plan) (old new : Moment) → answer ≡ Err status → Comes planned old new status → Comes planned old new (status_in answer)

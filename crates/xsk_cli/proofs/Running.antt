@@ -306,12 +306,12 @@ module _ (layout : Layout) (programs : List Program) (wire : Wire) (manner : Man
   shown_in_file count_is within each_short = all_in_file layout.hands layout programs wire manner lists accepted o.history shown.legal shown.whole o.sent shown.sent pairs count_is within each_short
 
 -- a layout and a manner that go together can be run by the layout's hands
-pub hands_suit : (layout : Layout) (manner : Manner) → suits_hands layout manner ≡ true → SuitHands layout.hands (regular_of layout) (unmangled manner)
+pub hands_suit : (layout : Layout) (manner : Manner) → suits_hands layout manner ≡ true → SuitHands layout.hands (regular_of layout)
 hands_suit layout manner is = ⊎_elim
     (λ (one : (layout.hands == 1) ≡ true). inl (eqb-true layout.hands 1 one))
     (λ (rest : (not (is_some layout.close) && manner.after == 0) ≡ true).
     let both = and_parts (not (is_some layout.close)) (manner.after == 0) rest in
-    inr (nothing layout.close both.0, ap (λ (n : ℕ). (let m : Manner = record { mangle = None; after = n } in m)) (eqb-true manner.after 0 both.1)))
+    inr (nothing layout.close both.0))
     (or_cases (layout.hands == 1) (not (is_some layout.close) && manner.after == 0) is)
   where
     nothing : (o : Option ℕ) → not (is_some o) ≡ true → o ≡ None

@@ -13,7 +13,7 @@ mod leaves;
 mod line;
 mod lists;
 mod made;
-mod options;
+pub mod options;
 mod output;
 mod plain;
 mod programs;

@@ -3,6 +3,7 @@ pub mod StoreSteps
 pub mod Openings
 pub mod Moves
 pub mod Follows
+pub mod Fronts
 pub mod Closing
 pub mod Legality
 pub mod Bare

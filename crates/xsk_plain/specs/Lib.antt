@@ -1,5 +1,6 @@
 pub mod Bases
 pub mod Checked
+pub mod Counts
 pub mod Engine
 pub mod Histories
 pub mod Kept

@@ -14,4 +14,5 @@ mod unlogged;
 
 pub use checked::Checked;
 pub use plain::{OpenRefused, Plain, items_room, payload_room};
+pub use ring_store::RingCounts;
 pub use unlogged::Unlogged;

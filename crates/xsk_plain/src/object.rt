@@ -8,7 +8,7 @@ ghost use Rattle.xsk_plain.specs.Stores.{sizes_in};
 use crate::bases::{first_marks, first_rings, mark_number, ring_number};
 use crate::moving::{give_back, put_items, put_unnoted, take_items, take_unnoted};
 use crate::opening::{fill_pools, open_marks, open_rings};
-use crate::ring_store::RingStore;
+use crate::ring_store::{RingCounts, RingStore};
 use std::alloc::Global;
 use std::mem;
 use xsk_log::Log;
@@ -32,7 +32,10 @@ pub(crate) struct Object {
 }
 
 impl Object {
-    ghost use Rattle.std.specs.Prelude.{◌≡◌, ◌+◌, ◌<◌, ◌≤◌, ◌↔◌, ℕ, List, [], ◌++◌, length, take, map, vec_len, All, IfOk, IfErr, IsOk, IsTrue};
+    ghost use Rattle.std.specs.Prelude.{◌≡◌, ◌+◌, ◌<◌, ◌≤◌, ◌↔◌, ℕ, List, [], ◌++◌, length, take, map, slice_get, Some, vec_len, All, IfOk, IfErr, IsOk, IsTrue};
+    ghost use Rattle.std.specs.Option.{option_map};
+    ghost use Rattle.xsk_umem.specs.declared.batch.Item.{Item as AnItem};
+    ghost use Rattle.xsk_plain.specs.Counts.{counts_of, number_of};
     ghost use Rattle.std.specs.List.{slice_index_or};
     ghost use Rattle.xsk_umem.specs.Frames.{Frames as Queue};
     ghost use Rattle.xsk_model.specs.Config.{HasRing, IsLawful, size_of};
@@ -241,6 +244,25 @@ impl Object {
     {
         let place = self.ring_place(ring);
         self.rings[place].taken()
+    }
+
+    /// A ring in numbers.
+    pub(crate) fn counts(&self, ring: Ring) -> RingCounts
+        requires { HasRing self.now.config ring }
+        ensures { result ≡ counts_of (size_of self.now.config ring) (part_in self.now.config (parts_of self.now.rings.items) ring) }
+    {
+        let place = self.ring_place(ring);
+        self.rings[place].counts()
+    }
+
+    /// The number of the frame of an item that is out in a ring, counted from the front, if it has one.
+    pub(crate) fn frame(&self, ring: Ring, i: u32) -> Option<u32>
+        requires ring { HasRing self.now.config ring }
+        requires within { i < length (part_in self.now.config (parts_of self.now.rings.items) ring).out }
+        ensures { (item : AnItem) → slice_get (part_in self.now.config (parts_of self.now.rings.items) ring).out i ≡ Some item → result ≡ option_map number_of item.frame }
+    {
+        let place = self.ring_place(ring);
+        self.rings[place].frame(i)
     }
 
     /// Puts the frames that stand in rings at the end of the queue, ring by ring. Those for which it has no room are

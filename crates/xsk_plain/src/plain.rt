@@ -1,14 +1,17 @@
 //! The object on one thread, as other crates use it.
-ghost use Rattle.std.specs.Prelude.{◌≡◌, ◌+◌, ◌*◌, ◌<◌, ◌≤◌, [], ◌∷◌, ◌++◌, ◌↔◌, length, OnOk, IfOk, IfErr, IsTrue};
+ghost use Rattle.std.specs.Prelude.{◌≡◌, ◌+◌, ◌*◌, ◌<◌, ◌≤◌, [], ◌∷◌, ◌++◌, ◌↔◌, length, slice_get, Some, OnOk, IfOk, IfErr, IsTrue};
+ghost use Rattle.std.specs.Option.{option_map};
+ghost use Rattle.xsk_umem.specs.declared.batch.Item.{Item as AnItem};
 ghost use Rattle.xsk_umem.specs.Geometry.{IsGeometry};
 ghost use Rattle.xsk_model.specs.Asks.{joined_call, joined_reply, HasAsked, HasAnswered};
-ghost use Rattle.xsk_model.specs.Config.{Config as Parts, IsLawful};
+ghost use Rattle.xsk_model.specs.Config.{Config as Parts, HasRing, IsLawful, size_of};
 ghost use Rattle.xsk_model.specs.declared.ask.Ask.{Ask as AnAsk};
 ghost use Rattle.xsk_model.specs.Expected.{IsReplyTo, IsReserved, IsPeeked, IsOld};
 ghost use Rattle.xsk_model.specs.Object.{State, reply_at, after, submitted};
 ghost use Rattle.xsk_model.specs.Opening.{AreFrames, opening};
 ghost use Rattle.xsk_model.specs.Stored.{stored_entry};
-ghost use Rattle.xsk_plain.specs.Engine.{Shows, CanPerform, frames_out};
+ghost use Rattle.xsk_plain.specs.Counts.{counts_of, number_of};
+ghost use Rattle.xsk_plain.specs.Engine.{Shows, CanPerform, frames_out, part_in};
 ghost use Rattle.xsk_log.specs.Left.{left_of};
 ghost use Rattle.xsk_log.specs.Line.{IsLineAt};
 ghost use Rattle.xsk_log.specs.Log.{calls_of, entries_of};
@@ -16,6 +19,7 @@ ghost use Rattle.xsk_plain.specs.Rooms.{Enters, payload_bytes, items_bytes};
 ghost use Rattle.xsk_plain.specs.Steps.{FollowsObject};
 
 use crate::object::Object;
+use crate::ring_store::RingCounts;
 use std::alloc::Global;
 use std::marker::Model;
 use thiserror::Error;
@@ -123,6 +127,23 @@ impl Plain {
     {
         let pairs = self.object.config.pairs().len() as u32;
         self.log.write_line(pairs, i, out);
+    }
+
+    /// A ring in numbers.
+    pub fn counts(&self, ring: Ring) -> RingCounts
+        requires { HasRing self.now.config ring }
+        ensures { result ≡ counts_of (size_of self.now.config ring) (part_in self.now.config self.now.rings ring) }
+    {
+        self.object.counts(ring)
+    }
+
+    /// The number of the frame of an item that is out in a ring, counted from the front, if it has one.
+    pub fn frame(&self, ring: Ring, i: u32) -> Option<u32>
+        requires ring { HasRing self.now.config ring }
+        requires within { i < length (part_in self.now.config self.now.rings ring).out }
+        ensures { (item : AnItem) → slice_get (part_in self.now.config self.now.rings ring).out i ≡ Some item → result ≡ option_map number_of item.frame }
+    {
+        self.object.frame(ring, i)
     }
 
     /// Whether a call can be performed: its ring or mark exists, a Submit has at most as many items as places are

@@ -44,6 +44,16 @@ impl Stored {
     }
 }
 
+/// A ring in numbers: the items that were submitted and not peeked, and the places that are peeked and not released, reserved
+/// and not filled, and neither of these.
+#[derive(Clone, Copy, Debug, PartialEq, Eq)]
+pub struct RingCounts {
+    pub out: u32,
+    pub held: u32,
+    pub reserved: u32,
+    pub free: u32,
+}
+
 /// One ring: the items that were submitted and not peeked, and how many places are peeked and not released, and
 /// reserved and not filled.
 #[derive(Drop)]
@@ -57,7 +67,10 @@ pub(crate) struct RingStore {
 }
 
 impl RingStore {
-    ghost use Rattle.std.specs.Prelude.{◌≡◌, ◌+◌, ◌-◌, ◌<◌, ◌≤◌, ◌↔◌, [], ◌∷◌, ◌++◌, length, IsOk, IsNone, OnOk, OnErr, IfOk, IfErr, IfSome, IfNone};
+    ghost use Rattle.std.specs.Prelude.{◌≡◌, ◌+◌, ◌-◌, ◌<◌, ◌≤◌, ◌↔◌, [], ◌∷◌, ◌++◌, length, slice_get, Some, IsOk, IsNone, OnOk, OnErr, IfOk, IfErr, IfSome, IfNone};
+    ghost use Rattle.std.specs.Option.{option_map};
+    ghost use Rattle.xsk_plain.specs.Counts.{counts_of, number_of};
+    ghost use Rattle.xsk_plain.specs.declared.ring_store.Stored.{Stored as AStored};
     ghost use Rattle.xsk_plain.specs.Steps.{free_in};
     ghost use Rattle.xsk_plain.specs.Stores.{part_of, unnoted, Has};
 
@@ -118,6 +131,29 @@ impl RingStore {
         ensures { result ≡ (self.now.room, self.now.held) }
     {
         (self.room, self.held)
+    }
+
+    pub(crate) fn counts(&self) -> RingCounts
+        ensures { result ≡ counts_of self.now.size (part_of self.now) }
+    {
+        RingCounts {
+            out: self.len(),
+            held: self.held,
+            reserved: self.room,
+            free: self.free(),
+        }
+    }
+
+    /// The number of the frame of an item, counted from the front, if it has one.
+    pub(crate) fn frame(&self, i: u32) -> Option<u32>
+        requires { i < length self.now.out.items }
+        ensures { (stored : AStored) → slice_get self.now.out.items i ≡ Some stored → result ≡ option_map number_of stored.item.frame }
+    {
+        self.out[i as usize]
+            .item
+            .frame
+            .as_ref()
+            .map(|frame| frame.number())
     }
 
     /// Puts an item into a free place at the opening. Where none is free the item is dropped.

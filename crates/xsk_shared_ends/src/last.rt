@@ -89,6 +89,16 @@ impl<'a> LastHand<'a> {
         Turned::Moved
     }
 
+    /// Whether the application has ended.
+    pub fn has_ended(&self) -> bool
+        ensures { result ≡ true → IsWholeSplitRun self.now.config self.now.app (mine_of self.now.pass) }
+    {
+        match &self.state {
+            State::Leaving(leaving) => leaving.has_ended(),
+            State::Sharing(_) | State::Gone => false,
+        }
+    }
+
     /// The ends, exactly while it has them.
     pub fn into_ends(self) -> Result<Ends<'a>, LastHand<'a>>
         ensures has { IsOk result ↔ (self.entry.has_ends ≡ true) }

@@ -1,5 +1,5 @@
 //! An application's machine that goes on from what steps left, with its pass.
-ghost use Rattle.std.specs.Prelude.{◌≡◌, false, length};
+ghost use Rattle.std.specs.Prelude.{◌≡◌, false, true, length};
 ghost use Rattle.xsk_table.specs.View.{idle};
 ghost use Rattle.xsk_table.specs.Held.{Belongs};
 ghost use Rattle.xsk_rings.specs.Rounds.{mine_of};
@@ -55,6 +55,13 @@ impl<'a> Leaving<'a> {
             items,
             pass,
         }
+    }
+
+    /// Whether the machine makes no further call.
+    pub(crate) fn has_ended(&self) -> bool
+        ensures { result ≡ true → IsWholeSplitRun self.now.config self.now.app (mine_of self.now.pass) }
+    {
+        self.ask.is_none()
     }
 
     /// Makes its next call, if there is one.

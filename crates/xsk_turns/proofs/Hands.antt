@@ -1,5 +1,5 @@
 -- What holds of an application's runs by any number of hands: along steps, and along the turns behind them.
-use Rattle.std.proofs.Common.{◌≡◌, ◌⊎◌, ℕ, zero, suc, ◌<◌, true, false, Bool, None, List, [], ◌∷◌, ◌++◌, refl, sym, subst}
+use Rattle.std.proofs.Common.{◌≡◌, ◌⊎◌, ℕ, zero, suc, ◌<◌, true, false, Bool, Option, None, List, [], ◌∷◌, ◌++◌, refl, sym, subst}
 use Rattle.xsk_model.specs.Config.{Config}
 use Rattle.xsk_model.specs.Own.{submitted_of, peeked_of}
 use Rattle.xsk_model.specs.declared.call.Ring.{Ring}
@@ -36,10 +36,10 @@ module _ (c : Config) (a : ℕ) (one : IsApp c a) (l : List Told) (fit : AllFit 
       subst (lanes.AtEnd plain c a is.run.0) (sym is.cut)
       (says_in_run c a one (lanes.At plain c a one) (lanes.Asked plain c a one) (lanes.Ended plain c a one) (lanes_law c a one is.closes) (lanes_jumps c a one is.closes) is.closes is.kept is.steps is.later (ended is.run.0) before parts.1 is.run.1)
 
-split_passes : (m : Manner) (c : Config) (a : ℕ) (l : List Told) (lane : ℕ) → IsApp c a → AllFit c [] l → m ≡ plain → IsWholeSplitRun c a l → lane < lanes_of c
+split_passes : (m : Manner) (c : Config) (a : ℕ) (l : List Told) (lane : ℕ) → IsApp c a → AllFit c [] l → m.mangle ≡ None → IsWholeSplitRun c a l → lane < lanes_of c
     → AreAltered c.geometry m.mangle (peeked_of (Rx (rx_of c a lane)) l) (submitted_of (Tx (tx_of c a lane)) l)
 split_passes m c a l lane one fit same run h =
-    subst (λ (x : Manner). AreAltered c.geometry x.mangle (peeked_of (Rx (rx_of c a lane)) l) (submitted_of (Tx (tx_of c a lane)) l)) (sym same) ((split_at_end c a one l fit run).all lane h (none_drains c a lane run.run.0 run.closes))
+    subst (λ (x : Option ℕ). AreAltered c.geometry x (peeked_of (Rx (rx_of c a lane)) l) (submitted_of (Tx (tx_of c a lane)) l)) (sym same) ((split_at_end c a one l fit run).all lane h (none_drains c a lane run.run.0 run.closes))
 
 pub hands_pass_on : HandsPassOn
 hands_pass_on zero m c a l lane one fit run h stays = split_passes m c a l lane one fit run.0 run.1 h

@@ -19,7 +19,6 @@ use Rattle.xsk_turns.specs.AppLaw.{StaysOpen, AreAltered, SetsKicks, IsFlagged}
 use Rattle.xsk_turns.specs.AppOwned.{IsApp}
 use Rattle.xsk_turns.specs.AppSplit.{SplitStep, HasPlace, piece, LeavesOf, IsSplit, IsSplitRun, IsWholeSplitRun}
 use Rattle.xsk_turns.specs.AppTurns.{AppKept, pair_of, rx_of, tx_of, lanes_of, IsAppRunBy, IsWholeAppRunBy}
-use Rattle.xsk_turns.specs.Mangling.{plain}
 use Rattle.xsk_turns.specs.Owned.{AllFit}
 use Rattle.xsk_turns.specs.Turns.{IsDriverRun, IsWholeDriverRun}
 use Rattle.xsk_turns.specs.Wakes.{owes_on, owes_end}
@@ -30,14 +29,14 @@ use Rattle.xsk_turns.specs.declared.manner.Manner.{Manner}
 
 -- a run of an application with this manner, and a whole one; several hands change nothing
 abbrev pub IsAppRunOf : ℕ → Manner → Config → ℕ → List Told → Type 0
-IsAppRunOf zero m c app l = (m ≡ plain) × IsSplitRun c app l
+IsAppRunOf zero m c app l = (m.mangle ≡ None) × IsSplitRun c app l
 IsAppRunOf (suc zero) m c app l = IsAppRunBy m c app l
-IsAppRunOf (suc (suc hands)) m c app l = (m ≡ plain) × IsSplitRun c app l
+IsAppRunOf (suc (suc hands)) m c app l = (m.mangle ≡ None) × IsSplitRun c app l
 
 abbrev pub IsWholeAppRunOf : ℕ → Manner → Config → ℕ → List Told → Type 0
-IsWholeAppRunOf zero m c app l = (m ≡ plain) × IsWholeSplitRun c app l
+IsWholeAppRunOf zero m c app l = (m.mangle ≡ None) × IsWholeSplitRun c app l
 IsWholeAppRunOf (suc zero) m c app l = IsWholeAppRunBy m c app l
-IsWholeAppRunOf (suc (suc hands)) m c app l = (m ≡ plain) × IsWholeSplitRun c app l
+IsWholeAppRunOf (suc (suc hands)) m c app l = (m.mangle ≡ None) × IsWholeSplitRun c app l
 
 -- A caller's own calls and replies are a run, of the driver of its pair over the pair's packets, or of its application by so many
 -- hands; and a whole one. With one hand they are a worker's run.

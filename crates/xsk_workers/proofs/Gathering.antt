@@ -13,7 +13,6 @@ use Rattle.xsk_model.proofs.CallTheorems.{callers_exist}
 use Rattle.xsk_turns.specs.Counted.{capped}
 use Rattle.xsk_turns.specs.Hands.{IsWholeRunOf, IsWholeAppRunOf}
 use Rattle.xsk_turns.specs.AppSplit.{IsWholeSplitRun}
-use Rattle.xsk_turns.specs.Mangling.{plain}
 use Rattle.xsk_turns.specs.Workers.{Setting, IsWholeRun, input_of}
 use Rattle.xsk_turns.specs.declared.manner.Manner.{Manner}
 use Rattle.xsk_turns.specs.declared.wire.Wire.{Wire}
@@ -172,16 +171,12 @@ seats_count b hands s ms seats =
     sym (length-map ms member_seat) ∙ ap (length {A = Seat}) seats ∙ length-map (range_with_len 0 (callers_of b.setup.config)) (seat_at hands s b)
     ∙ length-range_with_len 0 (callers_of b.setup.config)
 
--- several hands change nothing
-pub unchanged_by : (hands : ℕ) (c : Config) (manner : Manner) → SuitHands hands c manner → (hands ≡ 1) ⊎ (manner ≡ plain)
-unchanged_by hands c manner suit = ⊎_elim (λ (one : hands ≡ 1). inl one) (λ (both : (c.closing ≡ None) × (manner ≡ plain)). inr both.1) suit
-
 -- one machine makes all calls where there is one hand, or of a driver
 alone_by : (hands n pairs : ℕ) → (hands == 1 || nat_lt n pairs) ≡ true → (hands ≡ 1) ⊎ (n < pairs)
 alone_by hands n pairs is = ⊎_elim (λ one. inl (eqb-true hands 1 one)) (λ driver. inr (ltb-true n pairs driver)) (or_cases (hands == 1) (nat_lt n pairs) is)
 
 -- several hands make a whole split run
-split_by : (hands : ℕ) (m : Manner) (c : Config) (app : ℕ) (l : List Told) → (hands ≡ 1 → ⊥) → m ≡ plain → IsWholeSplitRun c app l → IsWholeAppRunOf hands m c app l
+split_by : (hands : ℕ) (m : Manner) (c : Config) (app : ℕ) (l : List Told) → (hands ≡ 1 → ⊥) → m.mangle ≡ None → IsWholeSplitRun c app l → IsWholeAppRunOf hands m c app l
 split_by zero m c app l several is whole = (is, whole)
 split_by (suc zero) m c app l several is whole = absurd (several refl)
 split_by (suc (suc hands)) m c app l several is whole = (is, whole)
@@ -194,15 +189,14 @@ whole_alone hands s n l is run = ⊎_elim
     (alone_by hands n (length s.config.pairs) is)
 
 -- and several hands' whole split run where it isn't
-whole_split : (hands : ℕ) (s : Setting) (n app : ℕ) (l : List Told) → is_alone hands s n ≡ false → (hands ≡ 1) ⊎ (s.manner ≡ plain) → n ≡ caller_of s.config app → IsWholeSplitRun s.config app l → IsWholeRunOf hands s n l
+whole_split : (hands : ℕ) (s : Setting) (n app : ℕ) (l : List Told) → is_alone hands s n ≡ false → s.manner.mangle ≡ None → n ≡ caller_of s.config app → IsWholeSplitRun s.config app l → IsWholeRunOf hands s n l
 whole_split hands s n app l is changes_nothing caller whole =
     let several : hands ≡ 1 → ⊥ = λ one. let no : true ≡ false = ap (λ k. is_alone k s n) (sym one) ∙ is in absurd cc in
-    let manner : s.manner ≡ plain = ⊎_elim (λ (one : hands ≡ 1). absurd (several one)) (λ (same : s.manner ≡ plain). same) changes_nothing in
     record {
       driver = λ below. absurd (omega (arith, below, caller));
       app = λ a at.
           let same : app ≡ a = omega (arith, at, caller) in
-          split_by hands s.manner s.config a l several manner (subst (λ k. IsWholeSplitRun s.config k l) same whole);
+          split_by hands s.manner s.config a l several changes_nothing (subst (λ k. IsWholeSplitRun s.config k l) same whole);
     }
 
 -- a member in the setting and as the caller of its seat
@@ -227,7 +221,7 @@ module _ (b : Board) (hands : ℕ) (s : Setting) (n : ℕ) where
   past t seat run =
       at_seat (λ x k. k ≡ caller_of x.config t.last.app) t.setting t.last.pass.who (ap (λ (x : Seat). x.setting) seat) (ap (λ (x : Seat). x.who) seat) run.team.caller
 
-  whole_here : (m : Member WorkerShown TeamShown) → (hands ≡ 1) ⊎ (s.manner ≡ plain) → member_seat m ≡ seat_at hands s b n → MemberHasRun m → IsWholeRunOf hands s n (own n (pass_in m).view.seen)
+  whole_here : (m : Member WorkerShown TeamShown) → s.manner.mangle ≡ None → member_seat m ≡ seat_at hands s b n → MemberHasRun m → IsWholeRunOf hands s n (own n (pass_in m).view.seen)
   whole_here (One w) changes_nothing seat run =
       whole_alone hands s n (own n w.pass.view.seen) (sym (ap (λ (x : Seat). x.alone) seat))
       (at_seat (λ x k. IsWholeRun x k (own k w.pass.view.seen)) w.setting w.pass.who (ap (λ (x : Seat). x.setting) seat) (ap (λ (x : Seat). x.who) seat) run)
@@ -244,7 +238,7 @@ module _ (b : Board) (hands : ℕ) (s : Setting) (n : ℕ) where
   left_here (Several t) (Some machine) seat run is = absurd is
 
 -- a member in its seat whose calls are whole is done
-pub is_done : (b : Board) (hands : ℕ) (s : Setting) (n : ℕ) (m : Member WorkerShown TeamShown) → (hands ≡ 1) ⊎ (s.manner ≡ plain) → member_seat m ≡ seat_at hands s b n → MemberHasRun m → IsDone b hands s n (pass_in m) (IsLeftOf m)
+pub is_done : (b : Board) (hands : ℕ) (s : Setting) (n : ℕ) (m : Member WorkerShown TeamShown) → s.manner.mangle ≡ None → member_seat m ≡ seat_at hands s b n → MemberHasRun m → IsDone b hands s n (pass_in m) (IsLeftOf m)
 is_done b hands s n m changes_nothing seat run = record {
   who = who_is b hands s n m seat;
   table = table_is b hands s n m seat;
@@ -253,7 +247,7 @@ is_done b hands s n m changes_nothing seat run = record {
   left = λ left is. left_here b hands s n m left seat run is;
 }
 
-have_run : (b : Board) (hands : ℕ) (s : Setting) (n : ℕ) (ms : List (Member WorkerShown TeamShown)) → (hands ≡ 1) ⊎ (s.manner ≡ plain) → map member_seat ms ≡ map (seat_at hands s b) (range_with_len n (length ms))
+have_run : (b : Board) (hands : ℕ) (s : Setting) (n : ℕ) (ms : List (Member WorkerShown TeamShown)) → s.manner.mangle ≡ None → map member_seat ms ≡ map (seat_at hands s b) (range_with_len n (length ms))
     → All MemberHasRun ms → HaveRunFrom pass_in IsLeftOf b hands s n ms
 have_run b hands s n [] changes_nothing seats whole = tt
 have_run b hands s n (m ∷ ms) changes_nothing seats whole = (
@@ -261,7 +255,7 @@ have_run b hands s n (m ∷ ms) changes_nothing seats whole = (
   have_run b hands s (n + 1) ms changes_nothing (ap (drop 1) seats) (All-tail MemberHasRun m ms whole),
 )
 
-pub will_have_run : (b : Board) (hands : ℕ) (s : Setting) (seats : List Seat) → s.config ≡ b.setup.config → (hands ≡ 1) ⊎ (s.manner ≡ plain)
+pub will_have_run : (b : Board) (hands : ℕ) (s : Setting) (seats : List Seat) → s.config ≡ b.setup.config → s.manner.mangle ≡ None
     → seats ≡ map (seat_at hands s b) (range_with_len 0 (callers_of b.setup.config)) → WillHaveRun pass_in IsLeftOf member_seat MemberHasRun b hands s seats
 will_have_run b hands s seats config changes_nothing are ms same whole =
     let here : map member_seat ms ≡ map (seat_at hands s b) (range_with_len 0 (callers_of b.setup.config)) = same ∙ are in

@@ -3,6 +3,7 @@ pub mod Sleeping
 pub mod Ruling
 pub mod Seats
 pub mod Dealt
+pub mod Visits
 pub mod Sitting
 pub mod Lists
 pub mod Calls

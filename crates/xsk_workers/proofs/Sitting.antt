@@ -1,5 +1,5 @@
 -- An application by several hands stays where it sits.
-use Rattle.std.proofs.Common.{◌≡◌, ℕ, false, sym, ap, subst, ◌∙◌}
+use Rattle.std.proofs.Common.{◌≡◌, ℕ, List, false, sym, ap, subst, ◌∙◌}
 use Rattle.atomic_table.specs.Seated.{TableId}
 use Rattle.xsk_model.specs.Rings.{caller_of}
 use Rattle.xsk_model.specs.Config.{Config}
@@ -13,7 +13,7 @@ use Rattle.xsk_shared_ends.specs.Shown.{EndsShown, AreEnds, name_of}
 use Rattle.xsk_shared_ends.specs.Last.{LastShown, StaysLast, shown_of_ends}
 use Rattle.xsk_workers.specs.Crew.{Seat, IsSeatOn}
 use Rattle.xsk_workers.specs.Shown.{seat_with}
-use Rattle.xsk_workers.specs.Hands.{IsNameOn, lanes_named, TeamShown, team_seat, named_seat, GoesWith, IsTeam, TeamHasRun}
+use Rattle.xsk_workers.specs.Hands.{IsNameOn, lanes_named, TeamShown, team_seat, named_seat, GoesWith, AreSides, IsTeam, TeamHasRun}
 
 -- ends on a table belong to it, and have the lanes that their name tells
 pub named_belongs : (b : Board) (e : EndsShown) → IsNameOn b (name_of e) → Belongs b e.pass
@@ -72,5 +72,5 @@ pub opened_on : (b : Board) (e : EndsShown) (t : TeamShown) → shown_of_ends e 
 opened_on b e t same on = (ap (λ (l : LastShown). l.pass.table) same ∙ on.0, ap (λ (l : LastShown). l.pass.view.setup) same ∙ on.1)
 
 -- and go with what the team has beside them
-pub opened_goes : (s : Setting) (who : ℕ) (e : EndsShown) (l : LastShown) → shown_of_ends e ≡ l → IsTeam (team_with s l) → who ≡ l.pass.who → GoesWith s who (name_of e)
-opened_goes s who e l same team caller = (caller ∙ sym (ap (λ (x : LastShown). x.pass.who) same), ap (λ (x : LastShown). x.pass.view.setup.config) same ∙ team.setup)
+pub opened_goes : (s : Setting) (who : ℕ) (pairs : List ℕ) (e : EndsShown) (l : LastShown) → shown_of_ends e ≡ l → IsTeam (team_with s l) → who ≡ l.pass.who → AreSides s.config who pairs → GoesWith s who pairs (name_of e)
+opened_goes s who pairs e l same team caller sides = (caller ∙ sym (ap (λ (x : LastShown). x.pass.who) same), ap (λ (x : LastShown). x.pass.view.setup.config) same ∙ team.setup, sides)

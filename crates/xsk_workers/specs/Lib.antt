@@ -3,6 +3,7 @@ pub mod Shown
 pub mod Parking
 pub mod Hands
 pub mod Sharing
+pub mod Visits
 pub mod Members
 pub mod Keeping
 pub mod Forwarded

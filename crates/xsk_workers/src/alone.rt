@@ -3,6 +3,7 @@ ghost use Rattle.std.specs.Prelude.{◌≡◌};
 ghost use Rattle.xsk_workers.specs.Crew.{IsSeatOn};
 
 use crate::pace::Pace;
+use crate::passing::Passed;
 use crate::patience::{Patience, Waiting};
 use crate::runner::Rests;
 use std::sync::Wait;
@@ -25,9 +26,9 @@ pub(crate) fn run_alone<R: Wait, W: Rests, G: Gate>(
     let mut waiting = Waiting::new(patience);
     let mut turn = 0u64;
     for _ in rt.forever() {
-        gate.enter(number, turn);
+        let passed = Passed::through(gate, number, turn);
         turn = turn.saturating_add(1);
-        match worker.turn(shared) {
+        match worker.turn(shared, passed) {
             Pace::Ended => break,
             Pace::Moved => waiting.end(),
             Pace::Put(count) => waiting.end_with(count),

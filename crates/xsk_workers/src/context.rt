@@ -21,9 +21,6 @@ pub(crate) trait Context: Copy {
     // The tokens of the parkers of the pairs' drivers, and none where drivers don't sleep.
     ghost tokens: { Self → List TableId };
 
-    /// What wakes the drivers, by their pairs, where they sleep.
-    fn wakers(&self) -> &[Unparker];
-
     /// What wakes the driver of a pair, where drivers sleep.
     fn waker(&self, pair: u32) -> Option<&Unparker>
         ensures { option_map (λ waker. token_of waker.now) result ≡ slice_get (tokens self.now) pair };
@@ -61,10 +58,6 @@ impl<V: Verdicts> Context for Source<'_, V> {
     ghost setting = { λ s. record { config = s.config.now; wire = s.wire; manner = s.manner; packets = s.packets.now; verdicts = V.verdicts } };
 
     ghost tokens = { λ s. map token_of s.wakers.now };
-
-    fn wakers(&self) -> &[Unparker] {
-        self.wakers
-    }
 
     fn waker(&self, pair: u32) -> Option<&Unparker> {
         self.wakers.get(pair as usize)

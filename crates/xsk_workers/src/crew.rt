@@ -147,7 +147,7 @@ fn run_in_scope<R: Threads + Wait + Sync, W: Opens + Drop + Send, G: Gate + Sync
                     }
                 }
             }
-            finish(rt, shared, &mut unrun);
+            finish(rt, shared, gate, &mut unrun);
             gather(rt, handles, unrun, done)
         },
     )
@@ -166,6 +166,6 @@ pub(crate) fn run_crew<R: Threads + Wait + Sync, W: Opens + Drop + Send, G: Gate
 {
     let refused = AtomicU64::new(0);
     let mut workers = run_in_scope(rt, shared, gate, &refused, crew);
-    finish(rt, shared, &mut workers);
+    finish(rt, shared, gate, &mut workers);
     workers
 }

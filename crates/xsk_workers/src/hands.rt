@@ -1,31 +1,33 @@
 //! A hand of an application: it takes the ends from their lock for each step.
-ghost use Rattle.std.specs.Prelude.{◌≡◌, ◌<◌};
+ghost use Rattle.std.specs.Prelude.{◌≡◌, ◌↔◌, ◌<◌, true};
 ghost use Rattle.xsk_lock.specs.Rule.{mine};
 ghost use Rattle.xsk_lock.specs.Held.{Belongs, IsOff, IsOn};
 ghost use Rattle.xsk_workers.specs.Sharing.{IsFree, Stays};
+ghost use Rattle.xsk_workers.specs.Visits.{CameOf, Has, WereVisited, WereBothVisited, IsHandTurn, HasEnded};
 
+use crate::came::Came;
+use crate::parking::SideWakers;
 use crate::works::Works;
 use crossbeam_utils::Backoff;
-use crossbeam_utils::sync::Unparker;
 use std::sync::Wait;
 use xsk_gate::Gate;
 use xsk_lock::{Hand, Lock};
+use xsk_shared_ends::Step;
 use xsk_table::Shared;
 
 /// Which lanes a hand visits, of so many: those whose number has the hand's in the bits of the mask. For the gate the hands of its
-/// application are numbered from a base on. It knows the pairs of the application's sides.
+/// application are numbered from a base on.
 #[derive(Clone, Copy)]
 pub(crate) struct Share {
     pub(crate) hand: u32,
     mask: u32,
     pub(crate) lanes: u32,
     base: u32,
-    pairs: [u32; 2],
 }
 
 impl Share {
     /// The share of one hand for all lanes.
-    pub(crate) fn whole(lanes: u32, base: u32, pairs: [u32; 2]) -> Share
+    pub(crate) fn whole(lanes: u32, base: u32) -> Share
         ensures { result.lanes ≡ lanes }
     {
         Share {
@@ -33,7 +35,6 @@ impl Share {
             mask: 0,
             lanes,
             base,
-            pairs,
         }
     }
 
@@ -46,20 +47,20 @@ impl Share {
         (Share { mask, ..self }, Share { hand, mask, ..self })
     }
 
-    fn has(self, lane: u32) -> bool {
+    fn has(self, lane: u32) -> bool
+        ensures { (result ≡ true) ↔ Has self lane }
+    {
         lane & self.mask == self.hand
     }
 }
 
 /// What came of a hand's turn.
 #[derive(Clone, Copy)]
-struct HandTurn {
-    /// Whether both drivers had told that they have no further packet, as it looked.
-    told: bool,
-    /// Whether something was moved.
-    moved: bool,
-    /// Whether the hand has ended.
-    over: bool,
+pub(crate) enum HandTurn {
+    /// The hand has ended.
+    Over,
+    /// It goes on: whether both drivers had told that they have no further packet, as it looked, and what came of its steps.
+    GoesOn { told: bool, came: Came },
 }
 
 /// Takes the ends, once no other hand has them.
@@ -81,14 +82,14 @@ fn take<T: Works, R: Wait>(rt: &R, lock: &Lock<T>, hand: &mut Hand<T>) -> T
     unreachable!()
 }
 
-/// Visits a lane. Says whether it was empty.
+/// Visits a lane.
 fn visit<T: Works, R: Wait>(
     rt: &R,
     shared: &Shared,
     lock: &Lock<T>,
     hand: &mut Hand<T>,
     lane: u32,
-) -> bool
+) -> Step
     requires belongs { Belongs lock.now hand.old }
     requires off { IsOff hand.old }
     requires on { T.is_on shared.now lock.now.name }
@@ -96,21 +97,22 @@ fn visit<T: Works, R: Wait>(
     ensures belongs { Belongs lock.now hand.new }
     ensures off { IsOff hand.new }
     ensures mine { mine hand.new.view ≡ mine hand.old.view }
+    ensures came { CameOf T.name lock.now (T.lane_came lane) result }
 {
     let mut ends = take(rt, lock, hand);
-    let empty = ends.visit(shared, lane);
+    let step = ends.visit(shared, lane);
     lock.unlock(hand, ends);
-    empty
+    step
 }
 
-/// Visits a side. Says whether it was empty.
+/// Visits a side.
 fn recycle<T: Works, R: Wait>(
     rt: &R,
     shared: &Shared,
     lock: &Lock<T>,
     hand: &mut Hand<T>,
     side: u32,
-) -> bool
+) -> Step
     requires belongs { Belongs lock.now hand.old }
     requires off { IsOff hand.old }
     requires on { T.is_on shared.now lock.now.name }
@@ -118,11 +120,12 @@ fn recycle<T: Works, R: Wait>(
     ensures belongs { Belongs lock.now hand.new }
     ensures off { IsOff hand.new }
     ensures mine { mine hand.new.view ≡ mine hand.old.view }
+    ensures came { CameOf T.name lock.now (T.side_came side) result }
 {
     let mut ends = take(rt, lock, hand);
-    let empty = ends.recycle(shared, side);
+    let step = ends.recycle(shared, side);
     lock.unlock(hand, ends);
-    empty
+    step
 }
 
 /// Looks whether both drivers have told that they have no further packet.
@@ -133,6 +136,7 @@ fn look<T: Works, R: Wait>(rt: &R, shared: &Shared, lock: &Lock<T>, hand: &mut H
     ensures belongs { Belongs lock.now hand.new }
     ensures off { IsOff hand.new }
     ensures mine { mine hand.new.view ≡ mine hand.old.view }
+    ensures told { CameOf T.name lock.now T.marks_told result }
 {
     let mut ends = take(rt, lock, hand);
     let told = ends.look(shared);
@@ -140,15 +144,15 @@ fn look<T: Works, R: Wait>(rt: &R, shared: &Shared, lock: &Lock<T>, hand: &mut H
     told
 }
 
-/// Visits the lanes of a share. Says whether each was empty.
+/// Visits the lanes of a share, and gives the drivers' tokens behind each from which something moved.
 fn visit_share<T: Works, R: Wait>(
     rt: &R,
     shared: &Shared,
     lock: &Lock<T>,
-    wakers: &[Unparker],
+    wakers: SideWakers<'_>,
     share: Share,
     hand: &mut Hand<T>,
-) -> bool
+) -> Came
     requires belongs { Belongs lock.now hand.old }
     requires off { IsOff hand.old }
     requires on { T.is_on shared.now lock.now.name }
@@ -156,32 +160,47 @@ fn visit_share<T: Works, R: Wait>(
     ensures belongs { Belongs lock.now hand.new }
     ensures off { IsOff hand.new }
     ensures mine { mine hand.new.view ≡ mine hand.old.view }
+    ensures came { WereVisited T.name lock.now T.lane_came share share.lanes result }
 {
-    let mut empty = true;
+    let mut came = Came::Idle;
     for lane in 0..share.lanes {
         if !share.has(lane) {
             continue;
         }
-        if visit(rt, shared, lock, hand, lane) {
-            continue;
+        let step = visit(rt, shared, lock, hand, lane);
+        if let Step::Moved = step {
+            wakers.wake();
         }
-        empty = false;
-        wake_sides(wakers, share.pairs);
+        came = came.and(Came::of(step));
     }
-    empty
+    came
 }
 
-/// Gives the tokens of the drivers of an application's sides, which a step that moved something may have kicked.
-pub(crate) fn wake_sides(wakers: &[Unparker], pairs: [u32; 2]) {
-    wake_side(wakers, pairs[0]);
-    wake_side(wakers, pairs[1]);
-}
-
-/// Gives the token of the driver of a pair.
-fn wake_side(wakers: &[Unparker], pair: u32) {
-    if let Some(waker) = wakers.get(pair as usize) {
-        waker.unpark();
+/// Visits both sides, and gives the drivers' tokens where frames may have gone back: also where a FILL ring had too little room, since
+/// another may have had some before.
+fn visit_sides<T: Works, R: Wait>(
+    rt: &R,
+    shared: &Shared,
+    lock: &Lock<T>,
+    wakers: SideWakers<'_>,
+    hand: &mut Hand<T>,
+) -> Came
+    requires belongs { Belongs lock.now hand.old }
+    requires off { IsOff hand.old }
+    requires on { T.is_on shared.now lock.now.name }
+    ensures belongs { Belongs lock.now hand.new }
+    ensures off { IsOff hand.new }
+    ensures mine { mine hand.new.view ≡ mine hand.old.view }
+    ensures came { WereBothVisited T.name lock.now T.side_came result }
+{
+    let first = Came::of(recycle(rt, shared, lock, hand, 0));
+    let second = Came::of(recycle(rt, shared, lock, hand, 1));
+    let came = first.and(second);
+    match came {
+        Came::Idle => {}
+        Came::Full | Came::Moved => wakers.wake(),
     }
+    came
 }
 
 /// A turn of a hand. It has ended where both drivers had told that they have no further packet as the turn began, and each of its
@@ -190,7 +209,7 @@ fn turn<T: Works, R: Wait>(
     rt: &R,
     shared: &Shared,
     lock: &Lock<T>,
-    wakers: &[Unparker],
+    wakers: SideWakers<'_>,
     share: Share,
     told: bool,
     hand: &mut Hand<T>,
@@ -202,41 +221,34 @@ fn turn<T: Works, R: Wait>(
     ensures belongs { Belongs lock.now hand.new }
     ensures off { IsOff hand.new }
     ensures mine { mine hand.new.view ≡ mine hand.old.view }
+    ensures came { IsHandTurn T.name lock.now T.lane_came T.side_came T.marks_told share told result }
 {
-    let empty = visit_share(rt, shared, lock, wakers, share, hand);
-    if told && empty {
-        return HandTurn {
-            told,
-            moved: false,
-            over: true,
-        };
+    let lanes = visit_share(rt, shared, lock, wakers, share, hand);
+    if told && let Came::Idle = lanes {
+        return HandTurn::Over;
     }
-    let first = recycle(rt, shared, lock, hand, 0);
-    let second = recycle(rt, shared, lock, hand, 1);
-    if !first || !second {
-        wake_sides(wakers, share.pairs);
-    }
-    HandTurn {
+    let sides = visit_sides(rt, shared, lock, wakers, hand);
+    HandTurn::GoesOn {
         told: look(rt, shared, lock, hand),
-        moved: !empty || !first || !second,
-        over: false,
+        came: lanes.and(sides),
     }
 }
 
-/// Runs a hand to its end.
+/// Runs a hand to its end. It backs off behind a turn that moved nothing, also where it found a ring full.
 pub(crate) fn run<T: Works, R: Wait, G: Gate>(
     rt: &R,
     shared: &Shared,
     gate: &G,
     lock: &Lock<T>,
-    wakers: &[Unparker],
+    wakers: SideWakers<'_>,
     share: Share,
     hand: Hand<T>,
 ) -> Hand<T>
     requires free { IsFree lock.now hand }
     requires on { T.is_on shared.now lock.now.name }
     requires lanes { share.lanes ≡ T.lanes_in lock.now.name }
-    ensures { Stays lock.now hand result }
+    ensures stays { Stays lock.now hand result }
+    ensures ended { HasEnded T.name lock.now T.lane_came T.marks_told share }
 {
     let mut hand = hand;
     let number = share.base.saturating_add(share.hand);
@@ -246,16 +258,21 @@ pub(crate) fn run<T: Works, R: Wait, G: Gate>(
     for _ in rt.forever() {
         gate.enter(number, count);
         count = count.saturating_add(1);
-        let turned = turn(rt, shared, lock, wakers, share, told, &mut hand);
-        told = turned.told;
-        if turned.over {
-            return hand;
-        }
-        if turned.moved {
-            backoff.reset();
-        } else {
-            backoff.snooze();
+        match turn(rt, shared, lock, wakers, share, told, &mut hand) {
+            HandTurn::Over => return hand,
+            HandTurn::GoesOn { told: now, came } => {
+                told = now;
+                rest_behind(came, &backoff);
+            }
         }
     }
     unreachable!()
+}
+
+/// Backs off where nothing moved, and begins anew where something did.
+fn rest_behind(came: Came, backoff: &Backoff) {
+    match came {
+        Came::Moved => backoff.reset(),
+        Came::Full | Came::Idle => backoff.snooze(),
+    }
 }

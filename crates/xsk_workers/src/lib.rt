@@ -2,6 +2,7 @@
 #![tactic(auto)]
 
 mod alone;
+mod came;
 mod context;
 mod crew;
 mod hands;
@@ -10,6 +11,7 @@ mod member;
 mod pace;
 mod pairs;
 mod parking;
+mod passing;
 mod patience;
 mod plan;
 mod runner;

@@ -4,11 +4,12 @@ ghost use Rattle.std.specs.Prelude.{◌≡◌};
 use crate::alone::run_alone;
 use crate::context::Context;
 use crate::pace::Pace;
+use crate::parking::SideWakers;
+use crate::passing::Passed;
 use crate::patience::Patience;
 use crate::plan::{HandsPlan, Rest};
 use crate::runner::{Leaves, Opens, Rests, Runner, Turns};
 use crate::team::Team;
-use crossbeam_utils::sync::Unparker;
 use std::sync::Wait;
 use xsk_gate::Gate;
 use xsk_machine::Collected;
@@ -38,10 +39,17 @@ impl<A: Turns, B: Turns> Turns for Member<A, B> {
         }
     }
 
-    fn turn(&mut self, shared: &Shared) -> Pace {
+    fn has_ended(&self) -> bool {
         match self {
-            Member::One(worker) => worker.turn(shared),
-            Member::Several(team) => team.turn(shared),
+            Member::One(worker) => worker.has_ended(),
+            Member::Several(team) => team.has_ended(),
+        }
+    }
+
+    fn turn(&mut self, shared: &Shared, passed: Passed) -> Pace {
+        match self {
+            Member::One(worker) => worker.turn(shared, passed),
+            Member::Several(team) => team.turn(shared, passed),
         }
     }
 }
@@ -57,8 +65,10 @@ impl<A: Rests, B: Rests> Runner for Member<A, B> {
 
 impl<'a, A: Rests, P: Context> Opens for Member<A, Team<'a, P>> {
     ghost use Rattle.std.specs.Prelude.{◌≡◌};
-    ghost use Rattle.xsk_shared_ends.specs.Shown.{name_of};
-    ghost use Rattle.xsk_workers.specs.Hands.{named_seat, team_seat, GoesWith};
+    ghost use Rattle.xsk_shared_ends.specs.Shown.{Name, name_of};
+    ghost use Rattle.std.specs.Prelude.{option_map};
+    ghost use Rattle.xsk_workers.specs.Parking.{token_of};
+    ghost use Rattle.xsk_workers.specs.Hands.{named_seat, team_seat, GoesWith, AreTokensOf};
     ghost use Rattle.xsk_workers.specs.Members.{either_seat};
 
     type Ends = Ends<'a>;
@@ -67,7 +77,9 @@ impl<'a, A: Rests, P: Context> Opens for Member<A, Team<'a, P>> {
 
     ghost seat_by = { λ rest. named_seat (P.setting rest.place) };
 
-    ghost goes_with = { λ rest. GoesWith (P.setting rest.place) rest.who };
+    ghost goes_with = { λ rest. GoesWith (P.setting rest.place) rest.who rest.plan.pairs };
+
+    ghost wakes = { λ rest. AreTokensOf (P.tokens rest.place) (P.setting rest.place).config rest.who };
 
     fn open(self) -> Result<(Ends<'a>, Rest<P>), Self> {
         match self {
@@ -83,12 +95,15 @@ impl<'a, A: Rests, P: Context> Opens for Member<A, Team<'a, P>> {
         rest.plan
     }
 
-    fn wakers(rest: &Rest<P>) -> &[Unparker] {
-        rest.place.wakers()
+    fn wakers(rest: &Rest<P>) -> SideWakers<'_>
+        requires { (name : Name) × GoesWith (P.setting rest.now.place) rest.now.who rest.now.plan.pairs name }
+        ensures { AreTokensOf (P.tokens rest.now.place) (P.setting rest.now.place).config rest.now.who (option_map (λ waker. token_of waker.now) result.first) (option_map (λ waker. token_of waker.now) result.second) }
+    {
+        SideWakers::of(&rest.place, rest.plan.pairs)
     }
 
     fn shut(rest: Rest<P>, ends: Ends<'a>) -> Self
-        requires { GoesWith (P.setting rest.place) rest.who (name_of ends) }
+        requires { GoesWith (P.setting rest.place) rest.who rest.plan.pairs (name_of ends) }
         ensures { either_seat A.seat team_seat result ≡ named_seat (P.setting rest.place) (name_of ends.entry) }
     {
         Member::Several(Team::new(rest, ends))

@@ -3,8 +3,8 @@ ghost use Rattle.std.specs.Prelude.{◌≡◌};
 ghost use Rattle.xsk_workers.specs.Sharing.{AreFree, IsFree, Stay, Stays};
 
 use crate::hands::{Share, run};
+use crate::parking::SideWakers;
 use crate::works::Works;
-use crossbeam_utils::sync::Unparker;
 use std::snapshot::Snapshot;
 use std::sync::Wait;
 use std::sync::atomic::{AtomicU64, Ordering};
@@ -22,7 +22,7 @@ pub(crate) struct Room<'a, T: Works, R, G> {
     pub(crate) gate: &'a G,
     pub(crate) refused: &'a AtomicU64,
     pub(crate) lock: &'a Lock<T>,
-    pub(crate) wakers: &'a [Unparker],
+    pub(crate) wakers: SideWakers<'a>,
 }
 
 /// What is promised of a hand that comes back from its thread.

@@ -1,7 +1,9 @@
 //! What drivers sleep on, and what wakes them.
-ghost use Rattle.std.specs.Prelude.{◌≡◌, map, length, IfOk, if◌then◌else◌};
+ghost use Rattle.std.specs.Prelude.{◌≡◌, map, length, IfOk, if◌then◌else◌, option_map};
+ghost use Rattle.std.specs.List.{slice_get, slice_index};
 ghost use Rattle.xsk_workers.specs.Parking.{token_of, token_in};
 
+use crate::context::Context;
 use crossbeam_utils::sync::{Parker, Unparker};
 use std::alloc::{AllocError, Global};
 use xsk_model::Config;
@@ -27,4 +29,34 @@ pub(crate) fn parkers_for(
         parkers.push(parker)?;
     }
     Ok((parkers, wakers))
+}
+
+/// What wakes the drivers of an application's two sides, where drivers sleep.
+#[derive(Clone, Copy)]
+pub(crate) struct SideWakers<'a> {
+    pub(crate) first: Option<&'a Unparker>,
+    pub(crate) second: Option<&'a Unparker>,
+}
+
+impl<'a> SideWakers<'a> {
+    /// What wakes the drivers of these pairs.
+    pub(crate) fn of<P: Context>(place: &'a P, pairs: [u32; 2]) -> SideWakers<'a>
+        ensures first { option_map (λ waker. token_of waker.now) result.first ≡ slice_get (P.tokens place.now) (slice_index pairs 0) }
+        ensures second { option_map (λ waker. token_of waker.now) result.second ≡ slice_get (P.tokens place.now) (slice_index pairs 1) }
+    {
+        SideWakers {
+            first: place.waker(pairs[0]),
+            second: place.waker(pairs[1]),
+        }
+    }
+
+    /// Gives the tokens of both drivers, which steps may have kicked.
+    pub(crate) fn wake(self) {
+        if let Some(waker) = self.first {
+            waker.unpark();
+        }
+        if let Some(waker) = self.second {
+            waker.unpark();
+        }
+    }
 }

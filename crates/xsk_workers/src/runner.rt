@@ -1,19 +1,22 @@
 //! What a crew runs: the calls of a caller, in a thread of its own or one after another beside others.
-ghost use Rattle.std.specs.Prelude.{◌≡◌, Option, IfOk, IfErr};
+ghost use Rattle.std.specs.Prelude.{◌≡◌, true, Option, IfOk, IfErr, option_map};
+ghost use Rattle.atomic_table.specs.Seated.{TableId};
 ghost use Rattle.xsk_machine.specs.declared.worker.AnyWorker.{AnyWorker as AWorker};
 ghost use Rattle.xsk_table.specs.View.{idle};
 ghost use Rattle.xsk_table.specs.Held.{Board, Holder};
 ghost use Rattle.xsk_workers.specs.Crew.{Seat, IsSeatOn};
 ghost use Rattle.xsk_workers.specs.Keeping.{HasRoomFor, Keeps};
+ghost use Rattle.xsk_workers.specs.Parking.{token_of};
 ghost use Rattle.xsk_workers.specs.Shown.{AreCounted};
 ghost use Rattle.xsk_workers.specs.declared.pace.Pace.TheVariants.{Parked, Ended};
 
 use crate::pace::Pace;
+use crate::parking::SideWakers;
+use crate::passing::Passed;
 use crate::patience::Patience;
 use crate::plan::HandsPlan;
 use crate::works::Works;
 use crossbeam_utils::Backoff;
-use crossbeam_utils::sync::Unparker;
 use std::sync::Wait;
 use xsk_gate::Gate;
 use xsk_machine::Collected;
@@ -34,9 +37,14 @@ pub(crate) trait Turns {
     fn caller(&self) -> u32
         ensures { result ≡ (seat self.now).who };
 
-    /// Makes a turn.
-    fn turn(&mut self, shared: &Shared) -> Pace
-        requires { IsSeatOn shared.now (seat self.old) }
+    /// Whether it has ended: then a turn makes no call.
+    fn has_ended(&self) -> bool
+        ensures { result ≡ true → has_run self.now };
+
+    /// Makes a turn, behind the gate.
+    fn turn(&mut self, shared: &Shared, passed: Passed) -> Pace
+        requires on { IsSeatOn shared.now (seat self.old) }
+        requires passed { passed.worker ≡ (seat self.old).who }
         ensures seat { seat self.new ≡ seat self.old }
         ensures whole { result ≡ Ended → has_run self.new }
         ensures parked { result ≡ Parked → is_asleep self.new };
@@ -70,6 +78,9 @@ pub(crate) trait Opens: Runner {
 
     ghost goes_with: { Self.Rest → Self.Ends.Name → Type 0 };
 
+    // These are the tokens of the drivers of both of its sides.
+    ghost wakes: { Self.Rest → Option TableId → Option TableId → Type 0 };
+
     /// Takes the ends out, where several hands are to share them; else it comes back.
     fn open(self) -> Result<(Self::Ends, Self::Rest), Self>
         ensures seat { IfOk result (λ parts. seat_by parts.1 (Self.Ends.name parts.0) ≡ Self.seat self) }
@@ -80,8 +91,10 @@ pub(crate) trait Opens: Runner {
     /// How its hands are run.
     fn plan(rest: &Self::Rest) -> HandsPlan;
 
-    /// What wakes the drivers, by their pairs, where they sleep.
-    fn wakers(rest: &Self::Rest) -> &[Unparker];
+    /// What wakes the drivers of both sides, where drivers sleep.
+    fn wakers(rest: &Self::Rest) -> SideWakers<'_>
+        requires { (name : Self.Ends.Name) × goes_with rest.now name }
+        ensures { wakes rest.now (option_map (λ waker. token_of waker.now) result.first) (option_map (λ waker. token_of waker.now) result.second) };
 
     /// Puts ends back, which may be others of the same name.
     fn shut(rest: Self::Rest, ends: Self::Ends) -> Self

@@ -4,6 +4,7 @@ ghost use Rattle.xsk_workers.specs.Crew.{IsSeatOn};
 ghost use Rattle.xsk_workers.specs.declared.pace.Pace.TheVariants.{Ended};
 
 use crate::pace::Pace;
+use crate::passing::Passed;
 use crate::patience::Patience;
 use crate::runner::{Opens, Turns};
 use crate::teams::share_ends;
@@ -63,8 +64,21 @@ fn run_hands<R: Threads + Wait + Sync, W: Opens, G: Gate + Sync>(
     }
 }
 
-/// Makes a turn of each member that hasn't ended. Says what came of all of them together.
-fn take_turns<W: Turns>(shared: &Shared, members: &mut Vec<W>) -> Pace
+/// Makes a member's turn of this number behind the gate, where it hasn't ended.
+fn take_turn<W: Turns, G: Gate>(shared: &Shared, gate: &G, turn: u64, member: &mut W) -> Pace
+    requires { IsSeatOn shared.now (W.seat member.old) }
+    ensures seat { W.seat member.new ≡ W.seat member.old }
+    ensures whole { result ≡ Ended → W.has_run member.new }
+{
+    if member.has_ended() {
+        return Pace::Ended;
+    }
+    let passed = Passed::through(gate, member.caller(), turn);
+    member.turn(shared, passed)
+}
+
+/// Makes a turn of this number of each member that hasn't ended. Says what came of all of them together.
+fn take_turns<W: Turns, G: Gate>(shared: &Shared, gate: &G, turn: u64, members: &mut Vec<W>) -> Pace
     requires { All (λ w. IsSeatOn shared.now (W.seat w)) members.old.items }
     ensures belong { All (λ w. IsSeatOn shared.now (W.seat w)) members.new.items }
     ensures count { vec_len members.new ≡ vec_len members.old }
@@ -74,14 +88,20 @@ fn take_turns<W: Turns>(shared: &Shared, members: &mut Vec<W>) -> Pace
     let mut together = Pace::Ended;
     for i in 0..members.len() {
         let member = &mut members[i];
-        let pace = member.turn(shared);
+        let pace = take_turn(shared, gate, turn, member);
         together = together.and(pace);
     }
     together
 }
 
-/// Runs members to their ends, one turn after another. It backs off while none of them moves anything, and doesn't sleep.
-pub(crate) fn finish<R: Wait, W: Turns>(rt: &R, shared: &Shared, members: &mut Vec<W>)
+/// Runs members to their ends, one turn after another, each behind the gate. It backs off while none of them moves anything, and doesn't
+/// sleep.
+pub(crate) fn finish<R: Wait, W: Turns, G: Gate>(
+    rt: &R,
+    shared: &Shared,
+    gate: &G,
+    members: &mut Vec<W>,
+)
     requires { All (λ w. IsSeatOn shared.now (W.seat w)) members.old.items }
     ensures count { vec_len members.new ≡ vec_len members.old }
     ensures seats { map W.seat members.new.items ≡ map W.seat members.old.items }
@@ -89,8 +109,11 @@ pub(crate) fn finish<R: Wait, W: Turns>(rt: &R, shared: &Shared, members: &mut V
     ensures whole { All W.has_run members.new.items }
 {
     let backoff = Backoff::new();
+    let mut turn = 0u64;
     for _ in rt.forever() {
-        match take_turns(shared, members) {
+        let pace = take_turns(shared, gate, turn, members);
+        turn = turn.saturating_add(1);
+        match pace {
             Pace::Ended => break,
             Pace::Moved | Pace::Put(_) => backoff.reset(),
             Pace::Waited | Pace::Parked => backoff.snooze(),

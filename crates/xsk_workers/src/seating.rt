@@ -45,7 +45,7 @@ pub(crate) fn seat_members<'a, V: Verdicts>(
     parkers: Vec<Parker>,
     passes: &mut Passes,
 ) -> Result<Vec<Caller<'a, V>>, OutOfMemory>
-    requires suit { SuitHands hands place.config.now place.manner }
+    requires suit { SuitHands hands place.config.now }
     requires regular { IsRegular place.config.now }
     requires count { length drivers.items ≡ length place.config.now.pairs }
     requires new { AreNew (setting_by place.config.now place.wire place.manner place.packets.now V.verdicts) 0 drivers.items }
@@ -114,7 +114,7 @@ fn seat_app<'a, V: Verdicts>(
     hands: u32,
     pass: Pass,
 ) -> Result<Caller<'a, V>, OutOfMemory>
-    requires suit { SuitHands hands place.config.now place.manner }
+    requires suit { SuitHands hands place.config.now }
     requires regular { IsRegular place.config.now }
     requires unused { (pass.view.flight ≡ idle) × (pass.view.seen ≡ []) × (pass.view.setup.config ≡ place.config.now) }
     requires app { length place.config.now.pairs ≤ pass.who }

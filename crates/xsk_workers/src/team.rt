@@ -10,8 +10,9 @@ ghost use Rattle.xsk_workers.specs.Crew.{IsSeatOn};
 ghost use Rattle.xsk_workers.specs.Hands.{team_seat, TeamHasRun, GoesWith};
 
 use crate::context::Context;
-use crate::hands::wake_sides;
 use crate::pace::Pace;
+use crate::parking::SideWakers;
+use crate::passing::Passed;
 use crate::plan::Rest;
 use crate::runner::{Leaves, Rests, Turns};
 use crate::works::Works;
@@ -23,24 +24,30 @@ use xsk_shared_ends::{Ends, LastHand, Step, Turned};
 use xsk_table::{Pass, Shared};
 
 impl<'a> Works for Ends<'a> {
-    ghost use Rattle.xsk_workers.specs.Hands.{IsNameOn, lanes_named};
+    ghost use Rattle.xsk_workers.specs.Hands.{IsNameOn, lanes_named, LaneCame, SideCame, MarksTold};
 
     ghost is_on = { IsNameOn };
 
     ghost lanes_in = { lanes_named };
+
+    ghost lane_came = { LaneCame };
+
+    ghost side_came = { SideCame };
+
+    ghost marks_told = { MarksTold };
 
     fn lanes(&self) -> u32 {
         self.keeps();
         Ends::lanes(self)
     }
 
-    fn visit(&mut self, shared: &Shared, lane: u32) -> bool {
+    fn visit(&mut self, shared: &Shared, lane: u32) -> Step {
         self.keeps();
-        self.lane(shared, lane) == Step::Idle
+        self.lane(shared, lane)
     }
 
-    fn recycle(&mut self, shared: &Shared, side: u32) -> bool {
-        Ends::recycle(self, shared, side) == Step::Idle
+    fn recycle(&mut self, shared: &Shared, side: u32) -> Step {
+        Ends::recycle(self, shared, side)
     }
 
     fn look(&mut self, shared: &Shared) -> bool {
@@ -57,19 +64,20 @@ pub(crate) struct Team<'a, P: Context> {
 
 impl<'a, P: Context> Model for Team<'a, P> {
     ghost use Rattle.std.specs.Prelude.{◌≡◌};
-    ghost use Rattle.xsk_workers.specs.Hands.{TeamShown, IsTeam};
+    ghost use Rattle.xsk_workers.specs.Hands.{TeamShown, IsTeam, AreSides};
 
     ghost Value = { TeamShown };
 
     ghost view = { λ t. record { setting = P.setting t.rest.place; last = t.last } };
 
-    ghost invariant = { λ t. IsTeam (record { setting = P.setting t.rest.place; last = t.last }) × (t.rest.who ≡ t.last.pass.who) };
+    ghost invariant = { λ t. IsTeam (record { setting = P.setting t.rest.place; last = t.last }) × (t.rest.who ≡ t.last.pass.who)
+        × AreSides (P.setting t.rest.place).config t.rest.who t.rest.plan.pairs };
 }
 
 impl<'a, P: Context> Team<'a, P> {
     /// The team of these ends, whose application is one of the setting.
     pub(crate) fn new(rest: Rest<P>, ends: Ends<'a>) -> Team<'a, P>
-        requires { GoesWith (P.setting rest.place) rest.who (name_of ends) }
+        requires { GoesWith (P.setting rest.place) rest.who rest.plan.pairs (name_of ends) }
         ensures { result ≡ record { setting = P.setting rest.place; last = shown_of_ends ends.entry } }
     {
         ends.keeps();
@@ -83,7 +91,7 @@ impl<'a, P: Context> Team<'a, P> {
     pub(crate) fn open(self) -> Result<(Ends<'a>, Rest<P>), Team<'a, P>>
         ensures ends { IfOk result (λ parts. shown_of_ends parts.0 ≡ self.entry.last) }
         ensures setting { IfOk result (λ parts. P.setting parts.1.place ≡ self.entry.setting) }
-        ensures goes { IfOk result (λ parts. GoesWith (P.setting parts.1.place) parts.1.who (name_of parts.0)) }
+        ensures goes { IfOk result (λ parts. GoesWith (P.setting parts.1.place) parts.1.who parts.1.plan.pairs (name_of parts.0)) }
         ensures back { IfErr result (λ team. team ≡ self.entry) }
     {
         let Team { last, rest } = self;
@@ -107,12 +115,16 @@ impl<'a, P: Context> Turns for Team<'a, P> {
         self.rest.who
     }
 
+    fn has_ended(&self) -> bool {
+        self.last.has_ended()
+    }
+
     /// Makes a turn of the last hand, and gives the tokens of the drivers that it may have kicked: also where it waited, since
     /// frames may have gone back to one FILL ring before the next had no room.
-    fn turn(&mut self, shared: &Shared) -> Pace {
+    fn turn(&mut self, shared: &Shared, _passed: Passed) -> Pace {
         let turned = self.last.turn(shared);
         if turned != Turned::Ended {
-            wake_sides(self.rest.place.wakers(), self.rest.plan.pairs);
+            SideWakers::of(&self.rest.place, self.rest.plan.pairs).wake();
         }
         Pace::of_last(turned)
     }

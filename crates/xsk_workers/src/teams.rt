@@ -3,9 +3,9 @@ ghost use Rattle.std.specs.Prelude.{◌≡◌, ◌<◌, ◌++◌, ◌∷◌, [],
 
 use crate::hands::Share;
 use crate::pairs::{Room, run_four, run_two};
+use crate::parking::SideWakers;
 use crate::plan::HandsPlan;
 use crate::works::Works;
-use crossbeam_utils::sync::Unparker;
 use std::alloc::Global;
 use std::sync::Wait;
 use std::sync::atomic::AtomicU64;
@@ -19,14 +19,14 @@ pub(crate) fn share_ends<T: Works + Send, R: Threads + Wait + Sync, G: Gate + Sy
     rt: &R,
     shared: &Shared,
     gate: &G,
-    wakers: &[Unparker],
+    wakers: SideWakers<'_>,
     plan: HandsPlan,
     ends: T,
 ) -> T
     requires { T.is_on shared.now (T.name ends) }
     ensures { T.name result ≡ T.name ends }
 {
-    let share = Share::whole(ends.lanes(), plan.base, plan.pairs);
+    let share = Share::whole(ends.lanes(), plan.base);
     if plan.hands == 4 {
         share_by_four(rt, plan.alloc, shared, gate, wakers, share, ends)
     } else {
@@ -40,7 +40,7 @@ fn share_by_two<T: Works + Send, R: Threads + Wait + Sync, G: Gate + Sync>(
     alloc: Global,
     shared: &Shared,
     gate: &G,
-    wakers: &[Unparker],
+    wakers: SideWakers<'_>,
     share: Share,
     ends: T,
 ) -> T
@@ -76,7 +76,7 @@ fn share_by_four<T: Works + Send, R: Threads + Wait + Sync, G: Gate + Sync>(
     alloc: Global,
     shared: &Shared,
     gate: &G,
-    wakers: &[Unparker],
+    wakers: SideWakers<'_>,
     share: Share,
     ends: T,
 ) -> T

@@ -15,6 +15,7 @@ ghost use Rattle.xsk_workers.specs.declared.pace.Pace.TheVariants.{Parked, Ended
 
 use crate::context::Context;
 use crate::pace::Pace;
+use crate::passing::Passed;
 use crate::runner::{Leaves, Rests, Turns};
 use crossbeam_utils::Backoff;
 use crossbeam_utils::sync::{Parker, Unparker};
@@ -108,10 +109,15 @@ impl<M: Machine + Drop, P: Context> Turns for Worker<M, P> {
         self.pass.caller()
     }
 
+    fn has_ended(&self) -> bool {
+        self.ask.is_none()
+    }
+
     /// Makes the next call, if there is one, and wakes the driver that it kicks.
     #[inline(always)]
-    fn turn(&mut self, shared: &Shared) -> Pace
-        requires { IsSeatOn shared.now (seat_of self.old) }
+    fn turn(&mut self, shared: &Shared, _passed: Passed) -> Pace
+        requires on { IsSeatOn shared.now (seat_of self.old) }
+        requires passed { _passed.worker ≡ (seat_of self.old).who }
         ensures seat { seat_of self.new ≡ seat_of self.old }
         ensures whole { result ≡ Ended → HasRun self.new }
         ensures parked { result ≡ Parked ↔ IsAsleep self.new }

@@ -122,7 +122,7 @@ pub fn forward<R: Threads + Wait + Sync, F: Fn(&[u8], u32) -> Verdict, G: Gate +
     hands: u32,
 ) -> Result<Outcome, OutOfMemory>
     requires hands { AreHands hands }
-    requires suit { SuitHands hands config manner }
+    requires suit { SuitHands hands config }
     requires unchanged { manner.mangle ≡ None }
     requires regular { IsRegular config }
     requires frames { AreFrames config.geometry frames.items }
@@ -159,7 +159,7 @@ fn run_drivers<'a, V: Verdicts + Send, R: Threads + Wait + Sync, G: Gate + Sync>
     drivers: Vec<Driver<'a>>,
 ) -> Result<Outcome, OutOfMemory>
     requires own { own.now ≡ config }
-    requires suit { SuitHands hands config manner }
+    requires suit { SuitHands hands config }
     requires unchanged { manner.mangle ≡ None }
     requires regular { IsRegular config }
     requires frames { AreFrames config.geometry frames.items }

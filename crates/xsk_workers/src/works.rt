@@ -1,8 +1,10 @@
 //! What a hand knows of the value that it takes from a lock.
-ghost use Rattle.std.specs.Prelude.{◌≡◌, ◌<◌, ℕ};
+ghost use Rattle.std.specs.Prelude.{◌≡◌, ◌<◌, ℕ, Bool};
 ghost use Rattle.xsk_table.specs.Held.{Board};
+ghost use Rattle.xsk_shared_ends.specs.declared.visiting.Step.{Step as AStep};
 
 use xsk_lock::Named;
+use xsk_shared_ends::Step;
 use xsk_table::Shared;
 
 /// A value on which a hand makes steps. By its name it is known on which table, and how many lanes it has.
@@ -11,24 +13,34 @@ pub(crate) trait Works: Named {
 
     ghost lanes_in: { Self.Name → ℕ };
 
+    // A visit to a lane was made, to a side, and a look at the marks, and this came of it.
+    ghost lane_came: { ℕ → Self → Self → AStep → Type 0 };
+
+    ghost side_came: { ℕ → Self → Self → AStep → Type 0 };
+
+    ghost marks_told: { Self → Self → Bool → Type 0 };
+
     /// How many lanes it has.
     fn lanes(&self) -> u32
         ensures { result ≡ lanes_in (Self.name self.now) };
 
-    /// Visits a lane. Says whether it was empty.
-    fn visit(&mut self, shared: &Shared, lane: u32) -> bool
+    /// Visits a lane.
+    fn visit(&mut self, shared: &Shared, lane: u32) -> Step
         requires on { is_on shared.now (Self.name self.old) }
         requires lane { lane < lanes_in (Self.name self.old) }
-        ensures { Self.name self.new ≡ Self.name self.old };
+        ensures name { Self.name self.new ≡ Self.name self.old }
+        ensures came { lane_came lane self.old self.new result };
 
-    /// Visits a side. Says whether it was empty.
-    fn recycle(&mut self, shared: &Shared, side: u32) -> bool
+    /// Visits a side.
+    fn recycle(&mut self, shared: &Shared, side: u32) -> Step
         requires on { is_on shared.now (Self.name self.old) }
         requires side { side < 2 }
-        ensures { Self.name self.new ≡ Self.name self.old };
+        ensures name { Self.name self.new ≡ Self.name self.old }
+        ensures came { side_came side self.old self.new result };
 
     /// Looks whether both drivers have told that they have no further packet.
     fn look(&mut self, shared: &Shared) -> bool
         requires on { is_on shared.now (Self.name self.old) }
-        ensures { Self.name self.new ≡ Self.name self.old };
+        ensures name { Self.name self.new ≡ Self.name self.old }
+        ensures told { marks_told self.old self.new result };
 }

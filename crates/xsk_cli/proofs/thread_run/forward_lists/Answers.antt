@@ -19,7 +19,7 @@ chain_of-requires-clause-sockets g c =
 
 pub forward-requires-clause-suit : goal.forward-requires-clause-suit
 forward-requires-clause-suit g c κs within =
-    subst (λ (k : Config). SuitHands c.args.layout.now.hands k (unmangled c.args.manner)) (sym c.requires.config) (hands_suit c.args.layout.now c.args.manner c.requires.suits)
+    subst (λ (k : Config). SuitHands c.args.layout.now.hands k) (sym c.requires.config) (hands_suit c.args.layout.now c.args.manner c.requires.suits)
 
 pub forward-requires-clause-hands : goal.forward-requires-clause-hands
 forward-requires-clause-hands g c κs within = (fits c.args.layout.now c.requires.accepted).hands

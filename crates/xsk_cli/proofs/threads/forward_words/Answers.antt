@@ -1,5 +1,5 @@
-use Rattle.std.proofs.Common.{rules, ◌≡◌, map, string_bytes, ap, codes, None, Some, Option, List, sym, subst, ◌∙◌}
-use Rattle.std.specs.Prelude.{option_and_then}
+use Rattle.std.proofs.Common.{◌≡◌, map, string_bytes, ap, codes, None, Some, Option, List, sym, subst, ◌∙◌}
+use Rattle.std.specs.Prelude.{Err, option_and_then}
 use Rattle.xsk_args.specs.Words.{Text}
 use Rattle.xsk_args.specs.Meaning.{meaning, under}
 use Rattle.xsk_socket.specs.Layout.{fault_of}
@@ -10,7 +10,7 @@ use Rattle.xsk_cli.specs.Streams.{status_in}
 use Rattle.xsk_cli.specs.declared.status.Status.{Status}
 use Rattle.xsk_cli.specs.Words.{Plan, layout_by, plan_by, planned_by}
 use Rattle.xsk_cli.specs.declared.status.Status.TheVariants.{Refused}
-use Rattle.xsk_cli.proofs.Coming.{args_comes, plan_comes_to, refused_comes}
+use Rattle.xsk_cli.proofs.Coming.{args_comes, err_is, plan_comes_to, refused_comes}
 use Rattle.xsk_cli.proofs.Showing.{args_before, comes_shown}
 use Rattle.xsk_cli.proofs.Planning.{has_no_plan, has_plan, plan_ready}
 use Rattle.xsk_cli.proofs.threads.forward_words.Goals as goal
@@ -21,9 +21,9 @@ returns-in_err-args g c =
     let words : List Text = map string_bytes c.args.words.now in
     let planned : Option Plan = forward_plan words in
     let error = c.in_err-args.field-0.0 in
-    comes_shown c.from_residual.result (args_status error) planned now now (search rules)
+    comes_shown c.from_residual.result (args_status error) planned now now (err_is c.from_residual.result (args_status error) c.from_residual.ensures.1)
     (args_comes planned now c.requires error
-    (λ is. let none : meaning (codes "forward") forward_options words ≡ None = search (rules, is) in ap (option_and_then planned_by) none)) (args_before error)
+    (λ is. let none : meaning (codes "forward") forward_options words ≡ None = c.in_err-args.ensures.usage (ap Err is) in ap (option_and_then planned_by) none)) (args_before error)
 
 pub returns-in_err-check_words : goal.returns-in_err-check_words
 returns-in_err-check_words g c =
@@ -31,7 +31,7 @@ returns-in_err-check_words g c =
     let words : List Text = map string_bytes c.args.words.now in
     let planned : Option Plan = forward_plan words in
     let error = c.in_err-check_words.field-0.0 in
-    comes_shown c.from_residual-in_err-check_words.result (args_status error) planned now now (search rules)
+    comes_shown c.from_residual-in_err-check_words.result (args_status error) planned now now (err_is c.from_residual-in_err-check_words.result (args_status error) c.from_residual-in_err-check_words.ensures.1)
     (args_comes planned now c.requires error
     (λ _. has_no_plan (under c.in_ok-args.args) (meaning (codes "forward") forward_options words) c.in_ok-args.ensures.told c.in_err-check_words.ensures.usage.1)) (args_before error)
 
@@ -44,9 +44,9 @@ returns-in_err-plan g c =
     let words : List Text = map string_bytes c.args.words.now in
     let planned : Option Plan = forward_plan words in
     let unlawful = c.in_err-plan.field-0.0 in
-    let fault : fault_of (layout_by (under c.in_ok-args.args)) ≡ Some unlawful = search rules in
+    let fault : fault_of (layout_by (under c.in_ok-args.args)) ≡ Some unlawful = c.in_err-plan.ensures.refused in
     let is : planned ≡ Some (plan_by (under c.in_ok-args.args)) = has_plan (under c.in_ok-args.args) (meaning (codes "forward") forward_options words) c.in_ok-args.ensures.told c.in_ok-check_words.ensures.passed in
-    comes_shown c.from_residual-in_err-plan.result (Refused unlawful) planned now now (search rules)
+    comes_shown c.from_residual-in_err-plan.result (Refused unlawful) planned now now (err_is c.from_residual-in_err-plan.result (Refused unlawful) c.from_residual-in_err-plan.ensures.1)
     (refused_comes planned now c.requires (plan_by (under c.in_ok-args.args)) unlawful is fault) (λ no. no)
 
 pub returns : goal.returns

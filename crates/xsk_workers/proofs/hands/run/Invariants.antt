@@ -1,6 +1,7 @@
-use Rattle.std.proofs.Common.{◌≡◌}
+use Rattle.std.proofs.Common.{◌≡◌, true}
 use Rattle.xsk_lock.specs.Rule.{mine}
 use Rattle.xsk_lock.specs.Held.{Belongs, IsOff}
+use Rattle.xsk_workers.specs.Visits.{CameOf}
 use Rattle.xsk_workers.proofs.hands.run.Given as goal
 
 abbrev pub invariant-loop : goal.invariant-loop
@@ -10,4 +11,5 @@ invariant-loop g l = record {
   belongs : Belongs l.lock l.hand;
   off : IsOff l.hand;
   mine : mine l.hand.view ≡ mine l.fn.hand.view;
+  told : l.told ≡ true → CameOf g.T.Named.name l.lock g.T.Works.marks_told true;
 }

@@ -15,9 +15,9 @@ loop-i-preserved g c =
     let at : old ≡ slice_index_or items c.loop-i.i old = search rules in
     let low : c.loop-i.i < length items = search rules in
     let both = c.and-together.ensures.ended.0 in
-    let on : IsSeatOn c.args.shared.now (seat c.turn-pace.new.self) = still_on c.args.shared.now (seat old) (seat c.turn-pace.new.self) c.turn-pace.ensures.seat (search rules) in (
-      All-set (λ w. IsSeatOn c.args.shared.now (seat w)) items c.loop-i.i c.turn-pace.new.self on was.0,
-      map-set_same seat items c.loop-i.i c.turn-pace.new.self old (c.turn-pace.ensures.seat ∙ ap seat at) ∙ was.1,
+    let on : IsSeatOn c.args.shared.now (seat c.take_turn-pace.new.member) = still_on c.args.shared.now (seat old) (seat c.take_turn-pace.new.member) c.take_turn-pace.ensures.seat (search rules) in (
+      All-set (λ w. IsSeatOn c.args.shared.now (seat w)) items c.loop-i.i c.take_turn-pace.new.member on was.0,
+      map-set_same seat items c.loop-i.i c.take_turn-pace.new.member old (c.take_turn-pace.ensures.seat ∙ ap seat at) ∙ was.1,
       search rules,
-      λ e. AllWithin-more_set items c.loop-i.i c.turn-pace.new.self low g.W.Turns.has_run (was.3 (both e).0) (c.turn-pace.ensures.whole (both e).1),
+      λ e. AllWithin-more_set items c.loop-i.i c.take_turn-pace.new.member low g.W.Turns.has_run (was.3 (both e).0) (c.take_turn-pace.ensures.whole (both e).1),
     )

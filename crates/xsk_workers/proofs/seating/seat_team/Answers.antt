@@ -1,6 +1,8 @@
-use Rattle.std.proofs.Common.{arith, ◌≡◌, ◌<◌, ◌∙◌, length, ap, subst, sym, false}
+use Rattle.std.proofs.Common.{arith, ◌≡◌, ◌<◌, ◌-◌, ◌∙◌, ℕ, [], ◌∷◌, length, ap, subst, sym, false}
 use Rattle.xsk_model.specs.Config.{Config, callers_of}
 use Rattle.xsk_model.specs.Entry.{own}
+use Rattle.xsk_model.specs.Rings.{caller_of}
+use Rattle.xsk_turns.specs.AppTurns.{pair_of}
 use Rattle.xsk_turns.specs.Workers.{Setting}
 use Rattle.xsk_table.specs.Held.{Holder}
 use Rattle.xsk_workers.specs.Shown.{seat_with}
@@ -28,7 +30,15 @@ new-requires-clause-unused g c = ap (own c.args.pass.who) c.requires.unused.1
 pub new-requires-in-Ok : goal.new-requires-in-Ok
 new-requires-in-Ok g c =
     let same : c.in-Ok.ends.pass ≡ c.args.pass = c.in-Ok.ensures.ok.0 in
-    (c.caller-who.ensures.caller ∙ sym (ap (λ (p : Holder). p.who) same), ap (λ (p : Holder). p.view.setup.config) same ∙ c.requires.unused.2)
+    let k = c.args.place.config.now in
+    let who = c.caller-who.result in
+    let pairs : length c.pairs.result.now ≡ length k.pairs = ap length c.pairs.ensures.value in
+    let app = who - length c.pairs.result.now in
+    let caller : who ≡ caller_of k app = omega (arith, pairs, c.requires.app, c.caller-who.ensures.caller) in (
+      c.caller-who.ensures.caller ∙ sym (ap (λ (p : Holder). p.who) same),
+      ap (λ (p : Holder). p.view.setup.config) same ∙ c.requires.unused.2,
+      (app, caller, ap (λ (n : ℕ). n ∷ c.side_pair-2.result ∷ []) c.side_pair.ensures.pair ∙ ap (λ (n : ℕ). pair_of k app 0 ∷ n ∷ []) c.side_pair-2.ensures.pair),
+    )
 
 pub returns-in-Ok : goal.returns-in-Ok
 returns-in-Ok g c =

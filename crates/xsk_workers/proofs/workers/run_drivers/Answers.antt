@@ -6,7 +6,7 @@ use Rattle.xsk_workers.specs.Hands.{SuitHands}
 use Rattle.xsk_workers.specs.Members.{member_seat}
 use Rattle.xsk_workers.specs.Forwarded.{HasForwarded, OutcomeShown, setting_by}
 use Rattle.xsk_machine.specs.Workers.{AreNew}
-use Rattle.xsk_workers.proofs.Gathering.{are_on, will_have_run, unchanged_by}
+use Rattle.xsk_workers.proofs.Gathering.{are_on, will_have_run}
 use Rattle.xsk_workers.proofs.Sleeping.{few_wakers}
 use Rattle.xsk_workers.proofs.workers.run_drivers.Goals as goal
 
@@ -15,7 +15,7 @@ seat_members-requires-clause-new g c =
     subst (λ (k : Config). AreNew (setting_by k c.args.wire c.args.manner c.args.packets.now g.V.Verdicts.verdicts) 0 c.args.drivers.items) (sym c.requires.own) c.requires.new
 
 pub seat_members-requires-clause-suit : goal.seat_members-requires-clause-suit
-seat_members-requires-clause-suit g c = subst (λ (k : Config). SuitHands c.args.hands k c.args.manner) (sym c.requires.own) c.requires.suit
+seat_members-requires-clause-suit g c = subst (λ (k : Config). SuitHands c.args.hands k) (sym c.requires.own) c.requires.suit
 
 pub seat_members-requires-clause-few : goal.seat_members-requires-clause-few
 seat_members-requires-clause-few g c =
@@ -33,7 +33,7 @@ pub run_members-requires-clause-run : goal.run_members-requires-clause-run
 run_members-requires-clause-run g c κs within =
     let s : Setting = setting_by c.args.own.now c.args.wire c.args.manner c.args.packets.now g.V.Verdicts.verdicts in
     let config : s.config ≡ c.in-Ok.shared.setup.config = search rules in
-    (c.args.hands, s, will_have_run c.in-Ok.shared c.args.hands s (map member_seat c.in_ok-members.members.items) config (unchanged_by c.args.hands c.args.config c.args.manner c.requires.suit) c.in_ok-members.ensures.seats)
+    (c.args.hands, s, will_have_run c.in-Ok.shared c.args.hands s (map member_seat c.in_ok-members.members.items) config c.requires.unchanged c.in_ok-members.ensures.seats)
 
 pub returns-clause-pairs : goal.returns-clause-pairs
 returns-clause-pairs g c = subst (λ (k : Config). IfOk c.run_members.result (λ (o : OutcomeShown). length o.sent ≡ length k.pairs)) c.requires.own c.run_members.ensures.pairs
@@ -43,6 +43,6 @@ returns-clause-forwarded g c =
     let s : Setting = setting_by c.args.own.now c.args.wire c.args.manner c.args.packets.now g.V.Verdicts.verdicts in
     let config : s.config ≡ c.in-Ok.shared.setup.config = search rules in
     let frames : c.in-Ok.shared.setup.frames ≡ c.args.frames.items = search rules in
-    let will = will_have_run c.in-Ok.shared c.args.hands s (map member_seat c.in_ok-members.members.items) config (unchanged_by c.args.hands c.args.config c.args.manner c.requires.suit) c.in_ok-members.ensures.seats in
+    let will = will_have_run c.in-Ok.shared c.args.hands s (map member_seat c.in_ok-members.members.items) config c.requires.unchanged c.in_ok-members.ensures.seats in
     subst (λ (k : Config). IfOk c.run_members.result (HasForwarded c.args.hands (setting_by k c.args.wire c.args.manner c.args.packets.now g.V.Verdicts.verdicts) c.args.frames.items)) c.requires.own
     (subst (λ (fs : List Frame). IfOk c.run_members.result (HasForwarded c.args.hands s fs)) frames (c.run_members.ensures.forwarded c.args.hands s refl c.requires.unchanged will))

@@ -9,6 +9,7 @@ invariant_of-result g c =
     let s = g.P.Context.setting c.args.rest.place in (
       subst (λ (l : LastShown). IsTeam (team_with s l)) (sym c.new.ensures) (ends_are_team s c.args.ends c.keeps.ensures.ends c.requires.1),
       c.requires.0 ∙ sym (ap (λ (l : LastShown). l.pass.who) c.new.ensures),
+      c.requires.2,
     )
 
 pub returns : goal.returns

@@ -8,12 +8,12 @@ pub turn-turned-requires : goal.turn-turned-requires
 turn-turned-requires g c =
     let b = c.args.shared.now in
     let s = g.P.Context.setting c.self.inside.rest.place in
-    record { belongs = seat_belongs b (team_with s c.self.inside.last) (subst (λ (t : TeamShown). IsSeatOn b (team_seat t)) (sym c.self.view_is) c.requires) }
+    record { belongs = seat_belongs b (team_with s c.self.inside.last) (subst (λ (t : TeamShown). IsSeatOn b (team_seat t)) (sym c.self.view_is) c.requires.on) }
 
 pub invariant_of-self : goal.invariant_of-self
 invariant_of-self g c =
     let s = g.P.Context.setting c.self.inside.rest.place in
-    (team_stays s c.self.inside.last c.turn-turned.new.self c.turn-turned.ensures.same c.self.invariant.0, c.self.invariant.1 ∙ sym c.turn-turned.ensures.same.who)
+    (team_stays s c.self.inside.last c.turn-turned.new.self c.turn-turned.ensures.same c.self.invariant.0, c.self.invariant.1 ∙ sym c.turn-turned.ensures.same.who, c.self.invariant.2)
 
 pub returns-clause-seat : goal.returns-clause-seat
 returns-clause-seat g c =

@@ -15,7 +15,7 @@ use Rattle.xsk_workers.proofs.worker.WorkerTurns.turn.Goals as goal
 pub serve-answer-requires-clause-may : goal.serve-answer-requires-clause-may
 serve-answer-requires-clause-may g c =
     let b = c.args.shared.now in
-    let on = subst (λ (w : WorkerShown). IsSeatOn b (seat_of w)) (sym c.self.view_is) c.requires in
+    let on = subst (λ (w : WorkerShown). IsSeatOn b (seat_of w)) (sym c.self.view_is) c.requires.on in
     may_ask g.M.Machine.stands _ _ c.self.inside.machine c.self.inside.ask c.self.inside.items c.self.inside.pass c.self.invariant.0 c.in-Some.ask c.in-Some.is b (record { table = on.0; setup = on.1 })
 
 pub serve-answer-requires-clause-items : goal.serve-answer-requires-clause-items

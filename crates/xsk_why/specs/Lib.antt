@@ -1,0 +1,4 @@
+pub mod Rings
+pub mod Waiting
+pub mod Waits
+pub mod Why

@@ -1,0 +1,40 @@
+//! The whole text, and how it grows.
+ghost use Rattle.std.specs.Prelude.{◌≡◌, ◌++◌, OnOk};
+ghost use Rattle.xsk_why.specs.Rings.{numbered};
+ghost use Rattle.xsk_why.specs.Why.{why_text};
+
+use crate::rings::push_rings;
+use crate::waits::{push_waits, waits_in};
+use itoa::Buffer;
+use std::alloc::Global;
+use xsk_plain::Plain;
+use xsk_umem::OutOfMemory;
+
+/// Puts behind a text what is told of an object after its calls, line by line.
+///
+/// First what each caller waits for: `waits ` and the journal's line, without its round, of each call since the last one that
+/// changed something, each once, by callers. Then for each ring its size, how many items are out, and how many places are
+/// held, reserved and free. It takes time of the log's length, and fails for want of memory alone.
+pub fn append_why(alloc: Global, text: &mut Vec<u8>, plain: &Plain) -> Result<(), OutOfMemory>
+    ensures { OnOk result (text.new.items ≡ text.old.items ++ why_text plain.now.config plain.now.rings plain.now.log) }
+{
+    let waits = waits_in(alloc, plain)?;
+    push_waits(text, plain.config().callers(), waits.as_slice())?;
+    push_rings(text, plain)
+}
+
+pub(crate) fn push_word(text: &mut Vec<u8>, word: &str) -> Result<(), OutOfMemory>
+    ensures { OnOk result (text.new.items ≡ text.old.items ++ word.now) }
+{
+    text.extend_from_slice(word.as_bytes())?;
+    Ok(())
+}
+
+/// A word, and the number behind it.
+pub(crate) fn push_number(text: &mut Vec<u8>, word: &str, number: u32) -> Result<(), OutOfMemory>
+    ensures { OnOk result (text.new.items ≡ text.old.items ++ numbered word.now number) }
+{
+    push_word(text, word)?;
+    text.extend_from_slice(Buffer::new().format(number).as_bytes())?;
+    Ok(())
+}
