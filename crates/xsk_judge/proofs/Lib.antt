@@ -1,0 +1,11 @@
+pub mod Marking
+pub mod Coming
+pub mod Agreeing
+pub mod Standing
+pub mod Behind
+pub mod Showing
+pub mod Stepping
+pub mod Peeking
+pub mod Standings
+pub mod Ready
+pub mod Beginning

@@ -1,0 +1,8 @@
+use Rattle.std.proofs.Common.{rules, ◌-◌}
+use Rattle.xsk_judge.proofs.Coming.{latest_step}
+use Rattle.xsk_judge.proofs.marks.are_latest.Goals as goal
+
+pub loop-k-preserved : goal.loop-k-preserved
+loop-k-preserved c =
+    latest_step c.args.setting.now c.args.frames.now c.args.ring c.args.queue.now.first (c.held.result - c.args.count) c.loop-k.k c.args.queue.now.entries c.in-Some.entry
+    (search rules) (search rules) c.loop-k.invariant

@@ -1,0 +1,4 @@
+pub mod Kept
+pub mod Judging
+pub mod Stands
+pub mod First

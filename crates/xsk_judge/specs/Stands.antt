@@ -1,0 +1,77 @@
+-- The calls for which a judge stands: they are possible, and what it keeps is what they leave. Lists have the latest call first.
+use Rattle.std.specs.Prelude.{◌≡◌, ℕ, ◌+◌, ◌^◌, ◌<◌, ◌≤◌, Bool, true, false, if◌then◌else◌, List, [], ◌∷◌, ◌++◌, length, map}
+use Rattle.std.specs.List.{slice_index_or}
+use Rattle.xsk_model.specs.declared.call.Ring.{Ring}
+use Rattle.xsk_model.specs.declared.call.Ring.TheVariants.{Tx}
+use Rattle.xsk_side.specs.Setting.{Setting, HasRing, pair_of}
+use Rattle.xsk_side.specs.Entries.{stands, strays_in}
+use Rattle.xsk_side.specs.Object.{is_made}
+use Rattle.xsk_side.specs.Own.{Held, entry_of, room_of, held_of, put_back, has_frame}
+use Rattle.xsk_side.specs.Legal.{IsLegal}
+use Rattle.xsk_side.specs.Possible.{Possible}
+use Rattle.xsk_side.specs.Local.{sure_of, back_of, given_of, strays_given}
+use Rattle.xsk_side.specs.declared.call.Party.TheVariants.{Program}
+use Rattle.xsk_side.specs.declared.call.Call.{Call}
+use Rattle.xsk_side.specs.declared.call.Call.TheVariants.{Reserve, Free, Submit, Peek, Release, Cancel}
+use Rattle.xsk_judge.specs.Kept.{Queue, Kept, is_mine, given_by, numbered, known_in, end_at, queue_at, strays_at}
+use Rattle.xsk_judge.specs.Judging.{is_latest, IsSized}
+use Rattle.xsk_judge.specs.declared.known.Known.{Known}
+use Rattle.xsk_judge.specs.declared.why.Why.{Why}
+use Rattle.xsk_judge.specs.declared.why.Why.TheVariants.{Rule, Kernel, TooMany}
+
+-- a call with its line
+pub record Line : Type 0 where
+  pub line : ℕ
+  pub call : Call
+
+abbrev pub call_of : Line → Call
+call_of l = l.call
+
+abbrev pub calls_of : List Line → List Call
+calls_of lines = map call_of lines
+
+-- the line at which a frame came to where it is
+abbrev pub moves : Setting → ℕ → List Call → Call → Bool
+moves s f past (Reserve r n answer) = false
+moves s f past (Free r n places) = false
+moves s f past (Submit r entries) = stands s f entries
+moves s f past (Peek r n entries) = stands s f entries
+moves s f past (Release r n) = false
+moves s f past (Cancel r n) = stands s f (put_back s past r n)
+
+abbrev pub since_of : Setting → ℕ → List Line → ℕ
+since_of s f [] = 0
+since_of s f (l ∷ lines) = if moves s f (calls_of lines) l.call then l.line else since_of s f lines
+
+pub record IsKnown (s : Setting) (lines : List Line) (f : ℕ) (known : Known) : Type 0 where
+  pub mine : is_mine known.place ≡ has_frame s f (calls_of lines)
+  pub given : given_by known.place ≡ given_of s (calls_of lines) f
+  pub since : known.since ≡ since_of s f lines
+
+pub record IsQueue (s : Setting) (calls : List Call) (frames : List Known) (r : Ring) (queue : Queue) : Type 0 where
+  pub entries : queue.entries ≡ map entry_of (held_of s r calls) ++ back_of s r calls
+  pub held : queue.held ≡ length (held_of s r calls)
+  pub latest : (i : ℕ) (h : Held) → i < queue.held
+      → is_latest s frames r (numbered queue.first i) (slice_index_or (held_of s r calls) i h).entry ≡ (slice_index_or (held_of s r calls) i h).untouched
+
+pub record StandsFor (s : Setting) (kept : Kept) (lines : List Line) : Type 0 where
+  pub possible : Possible s (calls_of lines)
+  pub frames : (f : ℕ) → f < s.geometry.frames → IsKnown s lines f (known_in kept.frames f)
+  pub room : (r : Ring) → HasRing s r → is_made r ≡ true → (end_at s kept r).room ≡ room_of r (calls_of lines)
+  pub sure : (r : Ring) → HasRing s r → is_made r ≡ true → (end_at s kept r).sure ≡ sure_of s r (calls_of lines)
+  pub queues : (r : Ring) → HasRing s r → is_made r ≡ false → IsQueue s (calls_of lines) kept.frames r (queue_at s kept r)
+  pub strays : (d : ℕ) → d < length s.pairs → strays_at kept d ≡ strays_given s d (calls_of lines)
+
+-- it stands for some calls
+pub record IsReady (s : Setting) (kept : Kept) : Type 0 where
+  pub sized : IsSized s kept
+  pub lines : List Line
+  pub stands : StandsFor s kept lines
+
+-- Why a call isn't possible after those: the program may not make it; it may, but there is no kernel that gives it this reply; or the
+-- judge can't count so many addresses that name no frame.
+abbrev pub IsWhy : Setting → List Line → Call → Why → Type 0
+IsWhy s lines call (Rule rule) = IsLegal s Program (calls_of lines) call → ⊥
+IsWhy s lines call (Kernel denial) = IsLegal s Program (calls_of lines) call × (Possible s (call ∷ calls_of lines) → ⊥)
+IsWhy s lines (Submit (Tx k) entries) TooMany = 2 ^ 64 ≤ strays_given s (pair_of s (Tx k)) (calls_of lines) + strays_in s entries
+IsWhy s lines call TooMany = ⊥

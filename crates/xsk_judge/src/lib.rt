@@ -1,0 +1,13 @@
+//! Judges the ring calls of one program, one after the other: whether some kernel can have answered so, and if not, what is wrong.
+#![tactic(auto)]
+
+mod first;
+mod judge;
+mod known;
+mod marks;
+mod queue;
+mod why;
+
+pub use judge::Judge;
+pub use known::{Known, Place};
+pub use why::{Denial, Rule, Why};
