@@ -1,3 +1,5 @@
+pub mod Frames
+pub mod Numbered
 pub mod Rings
 pub mod Waiting
 pub mod Waits

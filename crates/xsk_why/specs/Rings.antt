@@ -1,18 +1,16 @@
 -- What stands in the rings of an object, as text. The form of the lines is this project's own.
 use Rattle.std.specs.Prelude.{ℕ, Option, Some, None, List, [], ◌++◌, length, flat_map, codes}
-use Rattle.std.specs.Fmt.{decimal}
 use Rattle.std.specs.List.{range_with_len}
 use Rattle.xsk_model.specs.Config.{Config, size_of, socket_at}
+use Rattle.xsk_model.specs.Numbers.{numbers}
 use Rattle.xsk_model.specs.declared.call.Ring.{Ring}
 use Rattle.xsk_model.specs.declared.call.Ring.TheVariants.{Fill, Comp, Rx, Tx}
 use Rattle.xsk_log.specs.Line.{ring_text}
 use Rattle.xsk_plain.specs.Counts.{counts_of}
 use Rattle.xsk_plain.specs.Engine.{Part, part_in}
 use Rattle.xsk_plain.specs.declared.ring_store.RingCounts.{RingCounts}
-
--- a word, and the number behind it in decimal digits
-abbrev pub numbered : List ℕ → ℕ → List ℕ
-numbered word number = word ++ decimal number
+use Rattle.xsk_why.specs.Frames.{ranges}
+use Rattle.xsk_why.specs.Numbered.{numbered}
 
 -- a ring's size, the items that are out, and the places that are held, reserved and free
 abbrev pub counts_text : ℕ → RingCounts → List ℕ
@@ -23,8 +21,11 @@ counts_text size counts =
     ++ numbered (codes " reserved ") counts.reserved
     ++ numbered (codes " free ") counts.free
 
+-- behind these the frames of the items that are out, the next to be peeked first
 abbrev pub ring_line : Config → List Part → Ring → List ℕ
-ring_line c rings r = codes "ring " ++ ring_text r ++ counts_text (size_of c r) (counts_of (size_of c r) (part_in c rings r)) ++ codes "\n"
+ring_line c rings r =
+    codes "ring " ++ ring_text r ++ counts_text (size_of c r) (counts_of (size_of c r) (part_in c rings r)) ++ codes " frames"
+    ++ ranges (numbers (part_in c rings r).out) ++ codes "\n"
 
 abbrev pub pair_lines : Config → List Part → ℕ → List ℕ
 pair_lines c rings d = ring_line c rings (Fill d) ++ ring_line c rings (Comp d)

@@ -1,5 +1,5 @@
--- What is told of an object after its calls: what each caller waits for, and what stands in each ring. It is a function of the
--- configuration, of the calls, and of the rings that they left.
+-- What is told of an object after its calls: what each caller waits for, and what stands in each ring, with its frames. It is a
+-- function of the configuration, of the calls, and of the rings that they left.
 use Rattle.std.specs.Prelude.{ℕ, List, ◌++◌, length}
 use Rattle.xsk_model.specs.Config.{Config, callers_of}
 use Rattle.xsk_model.specs.Entry.{Entry}

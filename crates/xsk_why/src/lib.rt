@@ -1,6 +1,7 @@
 //! Why a run stands still: what each caller waits for, and what stands where, as a text.
 #![tactic(auto)]
 
+mod frames;
 mod rings;
 mod text;
 mod waits;

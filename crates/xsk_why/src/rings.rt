@@ -5,6 +5,7 @@ ghost use Rattle.xsk_model.specs.Config.{HasRing};
 ghost use Rattle.xsk_why.specs.Rings.{counts_text, pair_lines, ring_line, rings_text, socket_lines, where_some};
 ghost use Rattle.std.specs.List.{range_with_len};
 
+use crate::frames::push_frames;
 use crate::text::{push_number, push_word};
 use xsk_model::Ring;
 use xsk_plain::{Plain, RingCounts};
@@ -69,7 +70,10 @@ fn push_ring(text: &mut Vec<u8>, plain: &Plain, ring: Ring) -> Result<(), OutOfM
 {
     push_word(text, "ring ")?;
     push_name(text, ring)?;
-    push_counts(text, plain.config().size(ring), plain.counts(ring))?;
+    let counts = plain.counts(ring);
+    push_counts(text, plain.config().size(ring), counts)?;
+    push_word(text, " frames")?;
+    push_frames(text, plain, ring, counts.out)?;
     push_word(text, "\n")
 }
 

@@ -1,6 +1,6 @@
 //! The whole text, and how it grows.
 ghost use Rattle.std.specs.Prelude.{◌≡◌, ◌++◌, OnOk};
-ghost use Rattle.xsk_why.specs.Rings.{numbered};
+ghost use Rattle.xsk_why.specs.Numbered.{numbered};
 ghost use Rattle.xsk_why.specs.Why.{why_text};
 
 use crate::rings::push_rings;
@@ -14,7 +14,7 @@ use xsk_umem::OutOfMemory;
 ///
 /// First what each caller waits for: `waits ` and the journal's line, without its round, of each call since the last one that
 /// changed something, each once, by callers. Then for each ring its size, how many items are out, and how many places are
-/// held, reserved and free. It takes time of the log's length, and fails for want of memory alone.
+/// held, reserved and free, and the frames of the items that are out, as ranges, the next to be peeked first. It takes time of the log's length, and fails for want of memory alone.
 pub fn append_why(alloc: Global, text: &mut Vec<u8>, plain: &Plain) -> Result<(), OutOfMemory>
     ensures { OnOk result (text.new.items ≡ text.old.items ++ why_text plain.now.config plain.now.rings plain.now.log) }
 {
