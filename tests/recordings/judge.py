@@ -1,10 +1,14 @@
+#!/usr/bin/env python3
 """The judge of recordings in Python: which call can't be, and why, in the words of `xsk check`.
+
+    tests/recordings/judge.py FILE      tells what `xsk check FILE` tells, but for the hints, and ends with its status
 
 It keeps what a program's calls and replies leave, and no kernel: where each frame is, and of each ring a few numbers. That these rules are
 right is tried against all kernels (kernels.py); that the program keeps them too, by the scripts of this folder.
 """
 
 import re
+import sys
 from dataclasses import dataclass
 from typing import List, Optional
 
@@ -304,3 +308,16 @@ def told(found: Verdict, text) -> List[bytes]:
 def numbered(text, number) -> bytes:
     """A line of a text with its number."""
     return b"  line %d: %s" % (number, text.split(b"\n")[number - 1])
+
+
+def main():
+    """Judges the file that is named."""
+    with open(sys.argv[1], "rb") as file:
+        text = file.read()
+    found = verdict(text)
+    sys.stdout.buffer.write(b"".join(line + b"\n" for line in told(found, text)))
+    return found.status
+
+
+if __name__ == "__main__":
+    sys.exit(main())
