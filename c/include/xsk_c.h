@@ -68,7 +68,7 @@ enum xsk_c_answer {
 	XSK_C_LIVE,	 /* the handle is live, so that no other bench can be opened there */
 	XSK_C_NO_MEMORY, /* memory couldn't be had */
 	XSK_C_NO_SUCH,	 /* there is no such kind, mark, pair, class or packet, or it sent more than there was room for */
-	XSK_C_SHORT,	 /* the room that was handed in is too short, or the bytes are fewer than the items have */
+	XSK_C_SHORT,	 /* the bytes or the room that were handed in are too few */
 	XSK_C_FULL,	 /* a Reserve found fewer places free: the call was made, and answered so */
 	XSK_C_EMPTY,	 /* a Peek found nothing: the call was made, and answered so */
 
@@ -118,12 +118,12 @@ uint32_t xsk_c_close(struct xsk_c *);
 
 /* Asks for places of FILL or TX. Where the answer is XSK_C_FULL, free tells how many there are. */
 uint32_t xsk_c_reserve(struct xsk_c *, uint32_t app, uint32_t kind, uint32_t ring, uint32_t count, uint32_t *free);
-/* Submits items. On TX data has the bytes of those that lie in a chunk of the UMEM (addr below frames * chunk, and addr % chunk + len
- * at most chunk), one behind the other, each desc.len long. Other items of TX have no bytes, and those of FILL neither. */
+/* Submits items. On TX the bytes of item i begin at data[i * chunk], desc.len of them, and are written to its frame where they fit the
+ * chunk from its address on; data has descs_len * chunk bytes there, and else the answer is XSK_C_SHORT. On FILL data is not read. */
 uint32_t xsk_c_submit(struct xsk_c *, uint32_t app, uint32_t kind, uint32_t ring, const struct xsk_c_desc *descs, size_t descs_len,
 		      const uint8_t *data, size_t data_len);
-/* Takes items, at most descs_len: count tells how many, and their descriptors are written. On RX their bytes are written to data, one
- * behind the other; it must have room for descs_len * chunk bytes there, and else the answer is XSK_C_SHORT. */
+/* Takes items, at most descs_len: count tells how many, and their descriptors are written. On RX the bytes of item i are written from
+ * data[i * chunk] on; data has descs_len * chunk bytes there, and else the answer is XSK_C_SHORT. On COMPLETION data is not written. */
 uint32_t xsk_c_peek(struct xsk_c *, uint32_t app, uint32_t kind, uint32_t ring, struct xsk_c_desc *descs, size_t descs_len, uint8_t *data,
 		    size_t data_len, uint32_t *count);
 /* Gives back places of RX or COMPLETION that were peeked. */
