@@ -99,18 +99,18 @@ static short ready(struct xsk_socket *x, short events)
 	return told;
 }
 
-/* One look at all sockets among the descriptors; the others' are left. */
-static int look(struct pollfd *fds, nfds_t n, int *ours, struct xsk_umem **one)
+/* One look at all sockets among the descriptors; the others' are left. The first time each wakes its driver. */
+static int look(struct pollfd *fds, nfds_t n, bool wakes, struct xsk_umem **one)
 {
 	int found = 0;
-	*ours = 0;
+	*one = NULL;
 	for (nfds_t i = 0; i < n; i++) {
 		struct xsk_socket *x = socket_of(fds[i].fd);
 		if (!x)
 			continue;
-		++*ours;
 		*one = x->umem;
-		wake(x, true);
+		if (wakes)
+			wake(x, true);
 		fds[i].revents = ready(x, fds[i].events);
 		found += fds[i].revents != 0;
 	}
@@ -118,42 +118,46 @@ static int look(struct pollfd *fds, nfds_t n, int *ours, struct xsk_umem **one)
 }
 
 /* poll() of the descriptors that aren't sockets here. */
-static int look_at_others(struct pollfd *fds, nfds_t n, int timeout)
+static int look_at_others(struct pollfd *fds, nfds_t n)
 {
 	int found = 0;
 	for (nfds_t i = 0; i < n; i++) {
 		struct pollfd one = fds[i];
 		if (socket_of(one.fd))
 			continue;
-		if (syscall(SYS_poll, &one, 1, timeout) > 0)
+		if (syscall(SYS_poll, &one, 1, 0) > 0)
 			found++;
 		fds[i].revents = one.revents;
 	}
 	return found;
 }
 
-/* Time doesn't pass here: it waits only as long as the drivers have something to do. */
+/* Time doesn't pass here: who waits waits until nothing comes any more. With several threads that takes a while. */
 static int poll_ours(struct pollfd *fds, nfds_t n, int timeout)
 {
-	int found, ours;
+	bool wakes = true;
 	for (;;) {
-		struct xsk_umem *one = NULL;
-		bool ends;
+		struct xsk_umem *one;
+		bool ends, goes_on = false;
+		int found;
 		enter(NULL);
-		found = look(fds, n, &ours, &one);
-		if (!ours || (nfds_t)ours < n)
-			found += look_at_others(fds, n, 0);
+		found = look(fds, n, wakes, &one) + look_at_others(fds, n);
+		if (!found && one && timeout) {
+			settle(one, SETTLED);
+			found = look(fds, n, false, &one);
+		}
 		if (!found && one)
-			found_nothing(one);
+			goes_on = found_nothing(one);
 		ends = is_ending();
 		leave();
+		wakes = false;
 		if (found)
 			return found;
 		if (ends) {
 			errno = EINTR;
 			return -1;
 		}
-		if (timeout >= 0)
+		if (timeout == 0 || (timeout > 0 && !goes_on))
 			return 0;
 		sched_yield();
 	}
@@ -287,4 +291,9 @@ int setrlimit(__rlimit_resource_t which, const struct rlimit *limit)
 	long answer = syscall(SYS_prlimit64, 0, which, limit, NULL);
 	return answer && which == RLIMIT_MEMLOCK ? 0 : (int)answer;
 }
+
+#if defined __GLIBC__ && defined __LP64__
+int setrlimit64(__rlimit_resource_t which, const struct rlimit *limit);
+int setrlimit64(__rlimit_resource_t which, const struct rlimit *limit) { return setrlimit(which, limit); }
+#endif
 #pragma GCC visibility pop

@@ -112,9 +112,10 @@ void xsk_model_reserve(struct xsk_ring_prod *r, __u32 nb)
 {
 	struct side *s = side_of(r->producer);
 	struct xsk_umem *u = s->umem;
-	uint32_t wanted = r->cached_prod + nb, free = 0;
+	uint32_t wanted, free = 0;
 	enter(u);
 	u->calls++;
+	wanted = r->cached_prod + nb;
 	if (u->started || s->kind == XSK_C_TX) {
 		start(u);
 		if (s->capacity != s->size) { /* the program's ring is larger than the model's */
@@ -281,9 +282,10 @@ __u32 xsk_model_submit(struct xsk_ring_prod *r, __u32 nb)
 {
 	struct side *s = side_of(r->producer);
 	struct xsk_umem *u = s->umem;
-	uint32_t reserved = r->cached_prod - s->producer, done = 0;
+	uint32_t reserved, done = 0;
 	enter(u);
 	u->calls++;
+	reserved = r->cached_prod - s->producer;
 	if (s->kind == XSK_C_TX)
 		start(u);
 	/* where the model has more places reserved for it than the program knows of, its own count decides */
@@ -416,9 +418,10 @@ __u32 xsk_model_release(struct xsk_ring_cons *r, __u32 nb)
 {
 	struct side *s = side_of(r->producer);
 	struct xsk_umem *u = s->umem;
-	uint32_t had = r->cached_cons - s->consumer, done = 0;
+	uint32_t had, done = 0;
 	enter(u);
 	u->calls++;
+	had = r->cached_cons - s->consumer;
 	start(u);
 	/* where the model has given more than the program peeked, its own count decides */
 	if (nb > had && s->room != had && !legal(s, "release", nb, XSK_C_PLACES, -1))

@@ -19,12 +19,14 @@ static uint32_t threads, waiting;
 static uint64_t entries, random_state;
 static uint64_t moved, moved_seen, quiet, quiet_since; /* changes of any bench, and calls since the last that found nothing */
 static bool interrupts, ends;
+int xsk_model_pauses;
 
 static void thread_ends(void *known)
 {
 	(void)known;
 	pthread_mutex_lock(&lock);
 	threads--;
+	xsk_model_pauses = settings.seeded && threads > 1;
 	pthread_mutex_unlock(&lock);
 }
 
@@ -117,6 +119,7 @@ void enter(struct xsk_umem *u)
 	if (!pthread_getspecific(known_threads)) {
 		pthread_setspecific(known_threads, &lock);
 		threads++;
+		xsk_model_pauses = settings.seeded && threads > 1;
 	}
 	if (waiting)
 		pthread_cond_broadcast(&entered);
@@ -130,6 +133,14 @@ void enter(struct xsk_umem *u)
 		while (rounds--)
 			give_round(u);
 	}
+}
+
+void xsk_model_pause(void)
+{
+	pthread_mutex_lock(&lock);
+	if (next_random() % 4 == 0)
+		let_others();
+	pthread_mutex_unlock(&lock);
 }
 
 void leave(void)
@@ -151,8 +162,8 @@ void leave(void)
 
 bool is_ending(void) { return interrupts || ends; }
 
-/* The program found nothing: the drivers go on, and once nothing changes any more it is told to end. */
-void found_nothing(struct xsk_umem *u)
+/* The program found nothing: the drivers go on, and once nothing changes any more it is told to end. Whether something may still come. */
+bool found_nothing(struct xsk_umem *u)
 {
 	if (settings.seeded)
 		give_round(u);
@@ -162,19 +173,19 @@ void found_nothing(struct xsk_umem *u)
 		moved_seen = moved;
 		quiet = 0;
 		quiet_since = 0;
-		return;
+		return true;
 	}
-	if (u->still < SETTLED || !settings.end)
-		return;
+	if (u->still < SETTLED)
+		return true;
 	if (threads > 1) {
 		if (!quiet_since)
 			quiet_since = now();
 		if (now() - quiet_since < THREADS_WAIT)
-			return;
+			return true;
 	}
 	quiet++;
-	if (quiet != settings.end && quiet != 2 * settings.end)
-		return;
+	if (!settings.end || (quiet != settings.end && quiet != 2 * settings.end))
+		return false;
 	write_all();
 	if (quiet == settings.end)
 		interrupts = true;
@@ -182,4 +193,5 @@ void found_nothing(struct xsk_umem *u)
 		ends = true;
 	for (u = umems; u && ends; u = u->next)
 		tell_end(u);
+	return false;
 }

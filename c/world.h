@@ -122,7 +122,7 @@ void leave(void);		/* gives it back; not under the lock a signal may be raised, 
 void acted(struct xsk_umem *u);
 void give_round(struct xsk_umem *u);
 void settle(struct xsk_umem *u, uint32_t rounds);
-void found_nothing(struct xsk_umem *u);
+bool found_nothing(struct xsk_umem *u);
 uint32_t next_random(void);
 bool is_ending(void);
 void read_settings(void);

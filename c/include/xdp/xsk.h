@@ -70,6 +70,9 @@ void xsk_model_peek(struct xsk_ring_cons *cons, __u32 nb);
 void xsk_model_cancel(struct xsk_ring_cons *cons, __u32 nb);
 /* The need-wakeup flag is looked at. */
 void xsk_model_look(const struct xsk_ring_prod *prod);
+/* Where this isn't 0, several threads are explored: behind a reserve another may come first. */
+extern int xsk_model_pauses;
+void xsk_model_pause(void);
 
 /* ---- entries */
 
@@ -123,6 +126,8 @@ XDP_ALWAYS_INLINE __u32 xsk_ring_prod__reserve(struct xsk_ring_prod *prod, __u32
 	}
 	*idx = prod->cached_prod;
 	prod->cached_prod += nb;
+	if (xsk_model_pauses)
+		xsk_model_pause();
 	return nb;
 }
 
