@@ -1,4 +1,5 @@
 /* System calls on a socket's descriptor: each gives the drivers a turn. Those on other descriptors go to the kernel. */
+#undef _FORTIFY_SOURCE /* it makes functions of its own of these */
 #include "world.h"
 #include <errno.h>
 #include <poll.h>

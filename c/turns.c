@@ -18,6 +18,7 @@ static pthread_once_t once = PTHREAD_ONCE_INIT;
 static uint32_t threads, waiting;
 static uint64_t entries, random_state;
 static uint64_t moved, moved_seen, quiet, quiet_since; /* changes of any bench, and calls since the last that found nothing */
+static uint64_t calls_since, moved_before;	       /* all calls since the last change */
 static bool interrupts, ends;
 int xsk_model_pauses;
 
@@ -123,6 +124,10 @@ void enter(struct xsk_umem *u)
 	}
 	if (waiting)
 		pthread_cond_broadcast(&entered);
+	calls_since = moved == moved_before ? calls_since + 1 : 0;
+	moved_before = moved;
+	if (u && u->started && calls_since % 128 == 127) /* what goes on without a change finds nothing either */
+		found_nothing(u);
 	if (!settings.seeded)
 		return;
 	if (threads > 1 && next_random() % 4 == 0)
