@@ -25,7 +25,8 @@ static bool wake(struct xsk_socket *x, bool sends)
 	u->calls++;
 	start(u);
 	x->woken |= sends;
-	if (u->wakeup && !settings.copy && legal(s, "kick", 1, xsk_c_swap(&u->bench, s->app, XSK_C_KICK, x->pair->number, 1, &old), -1) && !old)
+	if (u->wakeup && !settings.copy && legal(s, "kick", 1, xsk_c_swap(&u->bench, s->app, XSK_C_KICK, x->pair->number, 1, &old), -1) &&
+		!old)
 		acted(u);
 	if (settings.copy && sends && x->tx) {
 		pass(x->tx, XSK_C_MOST);
@@ -185,8 +186,10 @@ int __poll_chk(struct pollfd *fds, nfds_t n, int timeout, size_t room)
 	return poll(fds, n, timeout);
 }
 
-ssize_t __recvfrom_chk(int fd, void *restrict buf, size_t n, size_t room, int flags, struct sockaddr *restrict addr, socklen_t *restrict len);
-ssize_t __recvfrom_chk(int fd, void *restrict buf, size_t n, size_t room, int flags, struct sockaddr *restrict addr, socklen_t *restrict len)
+ssize_t __recvfrom_chk(
+	int fd, void *restrict buf, size_t n, size_t room, int flags, struct sockaddr *restrict addr, socklen_t *restrict len);
+ssize_t __recvfrom_chk(
+	int fd, void *restrict buf, size_t n, size_t room, int flags, struct sockaddr *restrict addr, socklen_t *restrict len)
 {
 	if (room < n)
 		die("recvfrom() of more bytes than there is room for");

@@ -18,7 +18,9 @@ static void touched(int number, siginfo_t *info, void *context)
 		if (at < u->area || at >= u->area + u->size)
 			continue;
 		c = &u->chunks[(uint64_t)(at - u->area) / u->config.frame_size];
-		fprintf(stderr, "xsk: behind %s:%d: address %llu of the UMEM is touched, and isn't the program's: its frame was submitted on %s at %s:%d\n",
+		fprintf(stderr,
+			"xsk: behind %s:%d: address %llu of the UMEM is touched, and isn't the program's: its frame was submitted on %s at "
+			"%s:%d\n",
 			here.file, here.line, (unsigned long long)(at - u->area), name_of(c->side), c->since.file, c->since.line);
 	}
 	signal(number, SIG_DFL); /* it comes again, at the same line */

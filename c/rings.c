@@ -40,9 +40,10 @@ static uint32_t app_of_frame(const struct xsk_umem *u, uint32_t frame)
 static uint32_t frame_for(struct xsk_umem *u, uint32_t number, uint32_t app)
 {
 	struct chunk *c = &u->chunks[number];
-	uint32_t per_app = u->layout.frames / (u->layout.ports / 2 * u->layout.queues), old = c->frame;
-	if (c->frame != NO_FRAME && app_of_frame(u, c->frame) == app)
+	uint32_t per_app, old = c->frame;
+	if (c->frame != NO_FRAME && (u->apps == 1 || app_of_frame(u, c->frame) == app))
 		return c->frame;
+	per_app = u->layout.frames / u->apps;
 	if (!u->stock_count[app])
 		die("more chunks are in use on one queue than the model has frames for it (%u)", per_app);
 	c->frame = u->stock[app * per_app + --u->stock_count[app]];
@@ -63,15 +64,15 @@ static uint64_t model_address(struct side *s, uint64_t address)
 	if (number == NO_FRAME)
 		return address < UINT64_MAX - beyond ? beyond + address : address;
 	frame = u->chunks[number].frame != NO_FRAME ? u->chunks[number].frame : frame_for(u, number, s->app);
-	return (uint64_t)frame * u->layout.chunk + address % u->layout.chunk;
+	return ((uint64_t)frame << u->chunk_shift) + (address & (u->layout.chunk - 1));
 }
 
 static uint64_t program_address(const struct xsk_umem *u, uint64_t address)
 {
-	uint64_t frame = address / u->layout.chunk;
+	uint64_t frame = address >> u->chunk_shift;
 	if (frame >= u->layout.frames || u->chunk_of[frame] == NO_FRAME)
 		die("the model gave a frame that stands for no chunk");
-	return (uint64_t)u->chunk_of[frame] * u->layout.chunk + address % u->layout.chunk;
+	return ((uint64_t)u->chunk_of[frame] << u->chunk_shift) + (address & (u->layout.chunk - 1));
 }
 
 /* ---- FILL and TX */
@@ -183,7 +184,8 @@ static uint32_t submit(struct side *s, uint32_t n, bool copies)
 		items[i].addr = model_address(s, e.addr);
 		items[i].len = e.len;
 		items[i].options = e.options;
-		if (s->kind != XSK_C_TX || !copies || chunk_number(u, e.addr) == NO_FRAME || e.len > chunk || e.addr % chunk + e.len > chunk)
+		if (s->kind != XSK_C_TX || !copies || chunk_number(u, e.addr) == NO_FRAME || e.len > chunk ||
+			(e.addr & (chunk - 1)) + e.len > chunk)
 			continue;
 		if (s->holds)
 			guard(u, chunk_number(u, e.addr), true);
@@ -195,12 +197,14 @@ static uint32_t submit(struct side *s, uint32_t n, bool copies)
 static void told_invalid(struct side *s, const struct xdp_desc *e)
 {
 	uint32_t chunk = s->umem->layout.chunk;
-	uint64_t room = chunk - e->addr % chunk;
-	if (s->umem->invalid_told || (chunk_number(s->umem, e->addr) != NO_FRAME && e->len && e->len <= room && e->options <= XDP_PKT_CONTD))
+	uint64_t room = chunk - (e->addr & (chunk - 1));
+	if (s->umem->invalid_told ||
+		(chunk_number(s->umem, e->addr) != NO_FRAME && e->len && e->len <= room && e->options <= XDP_PKT_CONTD))
 		return;
 	s->umem->invalid_told = true;
-	fprintf(stderr, "xsk: %s:%d: %s gets an invalid descriptor, address %llu length %u options %u: it counts in tx_invalid_descs, and its "
-			"frame doesn't come back\n",
+	fprintf(stderr,
+		"xsk: %s:%d: %s gets an invalid descriptor, address %llu length %u options %u: it counts in tx_invalid_descs, and its "
+		"frame doesn't come back\n",
 		here.file, here.line, name_of(s), (unsigned long long)e->addr, e->len, e->options);
 }
 
@@ -332,7 +336,7 @@ static void came(struct side *s, uint32_t index, const struct xsk_c_desc *item, 
 {
 	struct xsk_umem *u = s->umem;
 	uint64_t address = program_address(u, item->addr);
-	uint32_t number = (uint32_t)(address / u->layout.chunk);
+	uint32_t number = (uint32_t)(address >> u->chunk_shift);
 	struct chunk *c = &u->chunks[number];
 	c->has = COME;
 	c->side = s;

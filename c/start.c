@@ -147,10 +147,20 @@ static void raise_to(uint32_t *size, const struct side *s)
 static void lay_out(struct xsk_umem *u)
 {
 	struct xsk_c_layout *l = &u->layout;
-	uint32_t pairs, apps, wanted, i;
-	*l = (struct xsk_c_layout){.ports = u->port_count <= 2 ? 2 : 4, .queues = 1, .sockets = 1, .chunk = u->config.frame_size,
-		.headroom = u->config.frame_headroom, .rx = 2, .tx = 2, .fill = 2, .comp = 2, .sg = u->sg,
-		.wakeup = u->wakeup && !settings.copy, .drops = settings.drops, .sent_packets = settings.room};
+	uint32_t pairs, wanted, i;
+	*l = (struct xsk_c_layout){.ports = u->port_count <= 2 ? 2 : 4,
+		.queues = 1,
+		.sockets = 1,
+		.chunk = u->config.frame_size,
+		.headroom = u->config.frame_headroom,
+		.rx = 2,
+		.tx = 2,
+		.fill = 2,
+		.comp = 2,
+		.sg = u->sg,
+		.wakeup = u->wakeup && !settings.copy,
+		.drops = settings.drops,
+		.sent_packets = settings.room};
 	for (i = 0; i < u->pair_count; i++) {
 		struct pair *p = &u->pairs[i];
 		if (up(p->queue + 1) > l->queues)
@@ -165,8 +175,8 @@ static void lay_out(struct xsk_umem *u)
 		raise_to(&l->tx, u->sockets[i]->tx);
 	}
 	pairs = l->ports * l->queues;
-	apps = pairs / 2;
-	wanted = u->chunk_count > MOST_FRAMES / apps ? MOST_FRAMES : u->chunk_count * apps;
+	u->apps = pairs / 2;
+	wanted = u->chunk_count > MOST_FRAMES / u->apps ? MOST_FRAMES : u->chunk_count * u->apps;
 	u->pool = (wanted + pairs - 1) / pairs;
 	l->frames = u->pool * pairs;
 	if (up(u->pool) > l->fill)
@@ -212,7 +222,7 @@ static void open_bench(struct xsk_umem *u)
 
 static void set_up_frames(struct xsk_umem *u)
 {
-	uint32_t frames = u->layout.frames, apps = u->layout.ports / 2 * u->layout.queues, per_app = frames / apps, frame, app;
+	uint32_t frames = u->layout.frames, per_app = frames / u->apps, frame, app;
 	u->data = malloc((size_t)XSK_C_MOST * u->layout.chunk);
 	u->chunk_of = malloc(frames * sizeof *u->chunk_of);
 	u->stock = malloc(frames * sizeof *u->stock);
@@ -223,7 +233,7 @@ static void set_up_frames(struct xsk_umem *u)
 		uint32_t pair = frame / u->pool;
 		app = pair / u->layout.queues / 2 * u->layout.queues + pair % u->layout.queues;
 		u->chunk_of[frame] = NO_FRAME;
-		if (apps == 1 && frame < u->chunk_count) {
+		if (u->apps == 1 && frame < u->chunk_count) {
 			u->chunk_of[frame] = frame;
 			u->chunks[frame].frame = frame;
 		} else {
@@ -248,8 +258,8 @@ static void hand_over(struct xsk_umem *u)
 				wanted = XSK_C_MOST;
 			if (!wanted)
 				continue;
-			answer = xsk_c_peek(&u->bench, app, XSK_C_RX, socket, items, wanted, u->data,
-				(size_t)wanted * u->layout.chunk, &count);
+			answer = xsk_c_peek(
+				&u->bench, app, XSK_C_RX, socket, items, wanted, u->data, (size_t)wanted * u->layout.chunk, &count);
 			if (answer == XSK_C_EMPTY)
 				continue;
 			if (answer != XSK_C_DONE || xsk_c_release(&u->bench, app, XSK_C_RX, socket, count) != XSK_C_DONE)

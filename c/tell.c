@@ -19,11 +19,6 @@ bool named_in(const char *variable, const char *name, char *out, size_t len)
 	return false;
 }
 
-uint32_t chunk_number(const struct xsk_umem *u, uint64_t address)
-{
-	return address < u->size ? (uint32_t)(address / u->config.frame_size) : NO_FRAME;
-}
-
 const char *name_of(const struct side *s)
 {
 	static const char *const kinds[] = {"FILL", "COMPLETION", "RX", "TX"};
@@ -140,7 +135,9 @@ static void write_journal(struct xsk_umem *u, uint32_t number)
 	snprintf(name, sizeof name, number ? "%s-%u" : "%s", file, number);
 	f = fopen(name, "wb");
 	if (f) {
-		fprintf(f, "audit --ports %u --queues %u --sockets %u --frames %u --chunk %u --headroom %u --rx %u --tx %u --fill %u --comp %u%s%s\n",
+		fprintf(f,
+			"audit --ports %u --queues %u --sockets %u --frames %u --chunk %u --headroom %u --rx %u --tx %u --fill %u --comp "
+			"%u%s%s\n",
 			l->ports, l->queues, l->sockets, l->frames, l->chunk, l->headroom, l->rx, l->tx, l->fill, l->comp,
 			l->sg ? " --sg" : "", l->wakeup ? " --wakeup" : "");
 		do {
@@ -238,8 +235,8 @@ void tell_end(struct xsk_umem *u)
 	fflush(stdout);
 	for (uint32_t port = 0; port < u->port_count; port++)
 		if (u->strays[port])
-			fprintf(stderr, "xsk: %s: %u packets of its capture came on a queue or class that has no socket with RX\n", u->ports[port],
-				u->strays[port]);
+			fprintf(stderr, "xsk: %s: %u packets of its capture came on a queue or class that has no socket with RX\n",
+				u->ports[port], u->strays[port]);
 	for (uint32_t i = 0; i < u->pair_count && u->started; i++)
 		told |= tell_queue(u, &u->pairs[i]);
 	if (told)

@@ -10,7 +10,7 @@
 #pragma GCC visibility pop
 
 enum { MOST_PORTS = 4, MOST_QUEUES = 4, MOST_CLASSES = 4, MOST_PAIRS = 16, MOST_SOCKETS = 64, MOST_FRAMES = 4096, MOST_ENTRIES = 2048 };
-enum { SETTLED = 64 };		/* rounds without a change behind which all drivers wait */
+enum { SETTLED = 64 }; /* rounds without a change behind which all drivers wait */
 #define NO_FRAME UINT32_MAX
 
 struct place {
@@ -44,7 +44,7 @@ struct pair {
 	uint32_t socket_count;
 	struct xsk_socket *sockets[MOST_CLASSES];
 	struct side *fill, *comp;
-	uint32_t packets; /* that are to come here */
+	uint32_t packets;			      /* that are to come here */
 	struct xsk_c_statistics before[MOST_CLASSES]; /* when the frames had been handed over */
 };
 
@@ -60,7 +60,7 @@ struct xsk_socket {
 
 /* Where a chunk of the program's is. */
 struct chunk {
-	uint32_t frame; /* the model's, or NO_FRAME */
+	uint32_t frame;				  /* the model's, or NO_FRAME */
 	enum { WITH_PROGRAM, ON_RING, COME } has; /* COME: it is back on the ring, and the program hasn't peeked it */
 	struct side *side;
 	struct place since;
@@ -75,7 +75,7 @@ struct xsk_umem {
 	struct xsk_umem_config config;
 	int fd;
 	bool deleted, started, wakeup, sg, written;
-	uint32_t users; /* sockets that aren't deleted */
+	uint32_t users;			  /* sockets that aren't deleted */
 	struct xsk_ring_prod *fill_saved; /* of no pair yet */
 	struct xsk_ring_cons *comp_saved;
 	struct side *fill_first, *comp_first;
@@ -86,16 +86,21 @@ struct xsk_umem {
 	/* from the start on */
 	struct xsk_c_layout layout;
 	uint32_t pool, strays[MOST_PORTS];
-	uint32_t chunk_count;
+	uint32_t chunk_count, chunk_shift, apps;
 	struct chunk *chunks;
 	uint32_t *chunk_of; /* by the model's frames: the program's chunk, or NO_FRAME */
 	uint32_t *stock;    /* frames of no chunk, application by application */
 	uint32_t stock_count[MOST_PAIRS / 2];
-	uint8_t *data; /* of one call's items */
+	uint8_t *data;	/* of one call's items */
 	uint32_t still; /* rounds in a row that changed nothing */
 	uint64_t calls, illegal;
 	bool invalid_told;
 };
+
+static inline uint32_t chunk_number(const struct xsk_umem *u, uint64_t address)
+{
+	return address < u->size ? (uint32_t)(address >> u->chunk_shift) : NO_FRAME;
+}
 
 extern struct xsk_umem *umems; /* all, those that are deleted too */
 extern _Thread_local struct place here;
@@ -130,7 +135,6 @@ void read_settings(void);
 bool named_in(const char *variable, const char *name, char *out, size_t len);
 bool legal(struct side *s, const char *call, uint32_t n, uint32_t answer, int64_t address);
 const char *name_of(const struct side *s);
-uint32_t chunk_number(const struct xsk_umem *u, uint64_t address);
 void write_all(void);
 void tell_end(struct xsk_umem *u);
 /* guard.c: chunks that the program doesn't have can't be touched, with the address sanitizer or XSK_GUARD. */

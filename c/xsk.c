@@ -150,7 +150,8 @@ int xsk_umem__create(struct xsk_umem **made, void *area, __u64 size, struct xsk_
 	u->size = size;
 	u->config = usual;
 	u->fd = eventfd(1, EFD_CLOEXEC); /* select() and epoll find it ready */
-	u->chunk_count = (uint32_t)(size / usual.frame_size);
+	u->chunk_shift = usual.frame_size == 2048 ? 11 : 12;
+	u->chunk_count = (uint32_t)(size >> u->chunk_shift);
 	u->chunks = zeroed(u->chunk_count, sizeof *u->chunks);
 	for (uint32_t i = 0; i < u->chunk_count; i++)
 		u->chunks[i].frame = NO_FRAME;
@@ -192,8 +193,8 @@ static bool is_elsewhere(const struct xsk_umem *u, const char *name)
 }
 
 /* A port's queue, which is made with the rings that it is given where it is new. */
-static int pair_on(struct xsk_umem *u, uint32_t port, uint32_t queue, struct xsk_ring_prod *fill, struct xsk_ring_cons *comp,
-	struct pair **found)
+static int pair_on(
+	struct xsk_umem *u, uint32_t port, uint32_t queue, struct xsk_ring_prod *fill, struct xsk_ring_cons *comp, struct pair **found)
 {
 	struct pair *p;
 	for (p = u->pairs; p < u->pairs + u->pair_count; p++)
@@ -241,8 +242,8 @@ static int socket_fault(const struct xsk_umem *u, const char *name, uint32_t que
 	return u->socket_count < MOST_SOCKETS ? 0 : -ENOMEM;
 }
 
-static struct xsk_socket *new_socket(struct xsk_umem *u, struct pair *p, struct xsk_ring_cons *rx, struct xsk_ring_prod *tx,
-	const struct xsk_socket_config *config)
+static struct xsk_socket *new_socket(
+	struct xsk_umem *u, struct pair *p, struct xsk_ring_cons *rx, struct xsk_ring_prod *tx, const struct xsk_socket_config *config)
 {
 	struct xsk_socket *x = zeroed(1, sizeof *x);
 	x->umem = u;

@@ -89,6 +89,7 @@ int main(int count, char **words)
 		packets += drop(&bytes);
 	printf("%s received %llu packets, %llu bytes\n", words[1], (unsigned long long)packets, (unsigned long long)bytes);
 	must("statistics", getsockopt(look.fd, SOL_XDP, XDP_STATISTICS, &statistics, &len) ? errno : 0);
-	printf("rx_dropped %llu rx_ring_full %llu\n", (unsigned long long)statistics.rx_dropped, (unsigned long long)statistics.rx_ring_full);
+	printf("rx_dropped %llu rx_ring_full %llu\n", (unsigned long long)statistics.rx_dropped,
+		(unsigned long long)statistics.rx_ring_full);
 	return 0;
 }

@@ -104,7 +104,7 @@ static bool others_are_equal(void)
 	struct ring r;
 	set_up(&r, 1u << dice(6), 0, true);
 	return real_ops.address(addr, which) == model_ops.address(addr, which) &&
-		real_ops.entry(&r, kind, idx) == model_ops.entry(&r, kind, idx);
+	       real_ops.entry(&r, kind, idx) == model_ops.entry(&r, kind, idx);
 }
 
 int main(int count, char **words)
@@ -126,8 +126,8 @@ int main(int count, char **words)
 				set_up(&rings[i / 2][i % 2], size, begin, i / 2);
 		}
 		if (call == 4) { /* the kernel */
-			uint32_t flag = dice(2), steps = dice(16), places = produces ? real->counts[0] - real->counts[1] :
-				real->size - (real->counts[0] - real->counts[1]);
+			uint32_t flag = dice(2), steps = dice(16),
+				 places = produces ? real->counts[0] - real->counts[1] : real->size - (real->counts[0] - real->counts[1]);
 			steps = steps < places ? steps : places;
 			for (int i = 0; i < 2; i++) {
 				rings[produces][i].counts[produces] += steps;

@@ -4,6 +4,7 @@ packets.py make FILE COUNT SEED       writes a capture of so many packets, of 60
 packets.py pings FILE COUNT SEED      the same, every third of them a ping (ICMPv6 echo request)
 packets.py swapped IN OUT             whether OUT is IN with the MAC addresses of each packet swapped
 packets.py same IN OUT                whether OUT has the packets of IN
+packets.py flows IN OUT               the same, each flow (MAC addresses) in its order
 packets.py replies IN OUT             whether OUT has a reply for each ping of IN, with a right sum
 packets.py numbered OUT COUNT         whether OUT has so many packets of txonly's
 """
@@ -80,11 +81,13 @@ def main(what, *words):
         came = read(words[0])
         if what == "swapped":
             wanted = [packet[6:12] + packet[:6] + packet[12:] for packet in came]
-        elif what == "same":
+        elif what in ("same", "flows"):
             wanted = came
         else:
             wanted = [reply(packet) for packet in came if is_ping(packet)]
         found = read(words[1])
+        if what == "flows":
+            wanted, found = (sorted(packets, key=lambda packet: packet[:12]) for packets in (wanted, found))
     if found != wanted:
         print(f"{what} {' '.join(words)}: {len(found)} packets, and {len(wanted)} are to come")
     return found != wanted

@@ -116,7 +116,8 @@ static uint32_t records(struct stub *s, uint32_t port, const uint8_t *text, uint
 	return XSK_C_DONE;
 }
 
-uint32_t xsk_c_open(struct xsk_c *h, const struct xsk_c_layout *l, const uint8_t *text, size_t text_len, const uint64_t *ends, size_t ends_len)
+uint32_t xsk_c_open(
+	struct xsk_c *h, const struct xsk_c_layout *l, const uint8_t *text, size_t text_len, const uint64_t *ends, size_t ends_len)
 {
 	uint32_t fault = fault_of(l, ends_len), p, i, pool;
 	struct stub *s;
@@ -191,10 +192,10 @@ static uint32_t find(struct stub *s, uint32_t app, uint32_t kind, uint32_t ring,
 		return XSK_C_UNKNOWN;
 	if (pair / s->l.queues / 2 * s->l.queues + pair % s->l.queues != app || produces != (kind == XSK_C_FILL || kind == XSK_C_TX))
 		return XSK_C_NOT_ITS_OWN;
-	*found = kind == XSK_C_FILL ? &s->pairs[ring].fill
-		: kind == XSK_C_COMP	? &s->pairs[ring].comp
-		: kind == XSK_C_RX	? &s->sockets[ring].rx
-					: &s->sockets[ring].tx;
+	*found = kind == XSK_C_FILL   ? &s->pairs[ring].fill
+		 : kind == XSK_C_COMP ? &s->pairs[ring].comp
+		 : kind == XSK_C_RX   ? &s->sockets[ring].rx
+				      : &s->sockets[ring].tx;
 	return XSK_C_DONE;
 }
 
@@ -214,8 +215,8 @@ uint32_t xsk_c_reserve(struct xsk_c *h, uint32_t app, uint32_t kind, uint32_t ri
 	return XSK_C_DONE;
 }
 
-uint32_t xsk_c_submit(struct xsk_c *h, uint32_t app, uint32_t kind, uint32_t ring, const struct xsk_c_desc *d, size_t n, const uint8_t *data,
-	size_t len)
+uint32_t xsk_c_submit(
+	struct xsk_c *h, uint32_t app, uint32_t kind, uint32_t ring, const struct xsk_c_desc *d, size_t n, const uint8_t *data, size_t len)
 {
 	struct stub *s = h->at;
 	struct ring *r = NULL;
