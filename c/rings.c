@@ -199,7 +199,7 @@ static void told_invalid(struct side *s, const struct xdp_desc *e)
 	uint32_t chunk = s->umem->layout.chunk;
 	uint64_t room = chunk - (e->addr & (chunk - 1));
 	if (s->umem->invalid_told ||
-		(chunk_number(s->umem, e->addr) != NO_FRAME && e->len && e->len <= room && e->options <= XDP_PKT_CONTD))
+		(chunk_number(s->umem, e->addr) != NO_FRAME && e->len && e->len <= room && e->options <= (s->umem->sg ? XDP_PKT_CONTD : 0)))
 		return;
 	s->umem->invalid_told = true;
 	fprintf(stderr,

@@ -5,7 +5,7 @@
 #include <stdlib.h>
 #include <string.h>
 
-enum { HEADER = 24, RECORD = 16, PRIMER = 60, MOST_BYTES = 262144 };
+enum { HEADER = 24, RECORD = 16, PRIMER = 60, MOST_BYTES = 262144, MOST_ROUNDS = 1000000 };
 
 struct text { /* the captures, one behind the other */
 	uint8_t *bytes;
@@ -245,11 +245,11 @@ static void set_up_frames(struct xsk_umem *u)
 /* The packets before the program's own are taken, and with them the frames. */
 static void hand_over(struct xsk_umem *u)
 {
-	uint32_t pairs = u->layout.ports * u->layout.queues, left = u->layout.frames, pair, got[MOST_PAIRS] = {0};
+	uint32_t pairs = u->layout.ports * u->layout.queues, left = u->layout.frames, pair, got[MOST_PAIRS] = {0}, rounds = 0;
 	while (left) {
 		bool still = false;
-		if (xsk_c_round(&u->bench, &still) != XSK_C_DONE)
-			die("out of memory");
+		if (xsk_c_round(&u->bench, &still) != XSK_C_DONE || rounds++ == MOST_ROUNDS)
+			die("the frames couldn't be handed over");
 		for (pair = 0; pair < pairs; pair++) {
 			struct xsk_c_desc items[XSK_C_MOST];
 			uint32_t count = 0, socket = pair * u->layout.sockets, wanted = u->pool - got[pair], answer;
@@ -319,6 +319,10 @@ void start(struct xsk_umem *u)
 	}
 	for (uint32_t i = 0; i < u->socket_count; i++)
 		keep_out(u, u->sockets[i]->tx, u->layout.tx);
-	for (uint32_t i = 0; i < u->pair_count; i++)
+	for (uint32_t i = 0; i < u->pair_count; i++) {
+		uint64_t old = 0;
 		pass_begun(u, u->pairs[i].fill);
+		if (u->layout.wakeup) /* no driver sleeps at the start */
+			xsk_c_swap(&u->bench, u->pairs[i].fill->app, XSK_C_KICK, u->pairs[i].number, 1, &old);
+	}
 }

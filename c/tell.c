@@ -124,16 +124,18 @@ static void write_capture(struct xsk_umem *u, uint32_t port)
 /* The journal of the first UMEM, or of a further one: behind the name stands its number then. Its first line is how it is audited. */
 static void write_journal(struct xsk_umem *u, uint32_t number)
 {
-	static uint8_t lines[1 << 20];
+	const size_t room = 1 << 26; /* each part is found from the first call on */
 	const struct xsk_c_layout *l = &u->layout;
 	const char *file = getenv("XSK_JOURNAL");
 	char name[4096];
 	uint32_t next = 0, answer;
+	uint8_t *lines;
 	FILE *f;
 	if (!file || !*file || !u->started)
 		return;
+	lines = malloc(room);
 	snprintf(name, sizeof name, number ? "%s-%u" : "%s", file, number);
-	f = fopen(name, "wb");
+	f = lines ? fopen(name, "wb") : NULL;
 	if (f) {
 		fprintf(f,
 			"audit --ports %u --queues %u --sockets %u --frames %u --chunk %u --headroom %u --rx %u --tx %u --fill %u --comp "
@@ -143,7 +145,7 @@ static void write_journal(struct xsk_umem *u, uint32_t number)
 		do {
 			uint64_t end = 0;
 			uint32_t from = next;
-			answer = xsk_c_journal(&u->bench, from, lines, sizeof lines, &next, &end);
+			answer = xsk_c_journal(&u->bench, from, lines, room, &next, &end);
 			fwrite(lines, 1, end, f);
 			if (answer == XSK_C_SHORT && next == from)
 				break;
@@ -151,6 +153,7 @@ static void write_journal(struct xsk_umem *u, uint32_t number)
 	}
 	if (!f || ferror(f) | fclose(f))
 		fprintf(stderr, "xsk: XSK_JOURNAL: %s can't be written\n", name);
+	free(lines);
 }
 
 void write_all(void)

@@ -1,4 +1,5 @@
 /* Whose turn it is: the drivers' rounds, other threads, and the end of a program for which nothing more comes. */
+#define _GNU_SOURCE /* for the kind of the lock */
 #include "world.h"
 #include <pthread.h>
 #include <signal.h>
@@ -11,7 +12,7 @@ enum { PATIENCE = 12 };		   /* rounds without a change behind which the program 
 enum { THREADS_WAIT = 200000000 }; /* nanoseconds without a change, where several threads make calls */
 
 struct settings settings;
-static pthread_mutex_t lock = PTHREAD_MUTEX_INITIALIZER;
+static pthread_mutex_t lock = PTHREAD_RECURSIVE_MUTEX_INITIALIZER_NP; /* a handler of a signal may end the program in a call */
 static pthread_cond_t entered = PTHREAD_COND_INITIALIZER;
 static pthread_key_t known_threads;
 static pthread_once_t once = PTHREAD_ONCE_INIT;

@@ -114,6 +114,7 @@ extern struct settings settings;
 
 /* xsk.c */
 struct xsk_socket *socket_of(int fd);
+/* Ends the program, with status 2: what it or its environment wants can't be had. */
 _Noreturn void die(const char *format, ...) __attribute__((format(printf, 1, 2)));
 /* start.c: the layout is known: the bench is opened, the program gets all frames, and what it put on FILL is passed on. */
 void start(struct xsk_umem *u);

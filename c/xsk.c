@@ -44,7 +44,7 @@ void die(const char *format, ...)
 	vfprintf(stderr, format, words);
 	va_end(words);
 	fputc('\n', stderr);
-	abort();
+	_exit(2);
 }
 
 /* What the model hasn't got. */
@@ -107,8 +107,12 @@ static void show_cons(struct xsk_ring_cons *r, struct side *s)
 	r->flags = &s->flags;
 }
 
+static pid_t creator;
+
 static void at_exit(void)
 {
+	if (getpid() != creator)
+		return; /* a child's rings are copies */
 	enter(NULL);
 	write_all();
 	for (struct xsk_umem *u = umems; u; u = u->next)
@@ -164,6 +168,7 @@ int xsk_umem__create(struct xsk_umem **made, void *area, __u64 size, struct xsk_
 	enter(NULL);
 	if (!registered)
 		registered = !atexit(at_exit);
+	creator = getpid();
 	u->next = umems;
 	umems = u;
 	leave();

@@ -2,6 +2,7 @@
 
 packets.py make FILE COUNT SEED       writes a capture of so many packets, of 60 to 1,400 bytes and from eight stations
 packets.py pings FILE COUNT SEED      the same, every third of them a ping (ICMPv6 echo request)
+packets.py big IN OUT                 writes IN in the other byte order, with nanoseconds
 packets.py swapped IN OUT             whether OUT is IN with the MAC addresses of each packet swapped
 packets.py same IN OUT                whether OUT has the packets of IN
 packets.py flows IN OUT               the same, each flow (MAC addresses) in its order
@@ -14,11 +15,11 @@ import struct
 import sys
 
 
-def write(path, packets):
+def write(path, packets, order="<", magic=0xA1B2C3D4):
     with open(path, "wb") as file:
-        file.write(struct.pack("<IHHiIII", 0xA1B2C3D4, 2, 4, 0, 0, 262144, 1))
+        file.write(struct.pack(order + "IHHiIII", magic, 2, 4, 0, 0, 262144, 1))
         for number, packet in enumerate(packets):
-            file.write(struct.pack("<IIII", number // 1000000, number % 1000000, len(packet), len(packet)) + packet)
+            file.write(struct.pack(order + "IIII", number // 1000000, number % 1000000, len(packet), len(packet)) + packet)
 
 
 def read(path):
@@ -72,6 +73,9 @@ def main(what, *words):
         dice = random.Random(int(words[2]))
         count = int(words[1])
         write(words[0], [ping(dice, k) if what == "pings" and k % 3 == 0 else plain(dice, k) for k in range(count)])
+        return 0
+    if what == "big":
+        write(words[1], read(words[0]), ">", 0xA1B23C4D)
         return 0
     if what == "numbered":
         header = bytes([2, 0, 0, 0, 0, 2, 2, 0, 0, 0, 0, 1, 0x88, 0xB5])
