@@ -15,6 +15,8 @@
 #endif
 #pragma GCC visibility push(default) /* these are the program's */
 
+static bool any(void) { return __atomic_load_n(&umems, __ATOMIC_ACQUIRE) != NULL; }
+
 /* The driver is woken, or told to send as in copy mode: 32 entries of this socket. Tells whether some are left. */
 static bool wake(struct xsk_socket *x, bool sends)
 {
@@ -42,7 +44,7 @@ static ssize_t woken(int fd, bool sends, bool *ours)
 {
 	struct xsk_socket *x;
 	bool left = false;
-	if (!umems) {
+	if (!any()) {
 		*ours = false;
 		return 0;
 	}
@@ -168,7 +170,7 @@ static int poll_ours(struct pollfd *fds, nfds_t n, int timeout)
 int poll(struct pollfd *fds, nfds_t n, int timeout)
 {
 	bool ours = false;
-	if (umems) {
+	if (any()) {
 		enter(NULL);
 		for (nfds_t i = 0; i < n; i++)
 			ours |= socket_of(fds[i].fd) != NULL;
@@ -236,7 +238,7 @@ int getsockopt(int fd, int level, int name, void *restrict value, socklen_t *res
 {
 	struct xsk_socket *x;
 	int answer = 0;
-	if (!umems)
+	if (!any())
 		return (int)syscall(SYS_getsockopt, fd, level, name, value, len);
 	enter(NULL);
 	x = socket_of(fd);
@@ -250,7 +252,7 @@ int getsockopt(int fd, int level, int name, void *restrict value, socklen_t *res
 int setsockopt(int fd, int level, int name, const void *value, socklen_t len)
 {
 	struct xsk_socket *x;
-	if (!umems)
+	if (!any())
 		return (int)syscall(SYS_setsockopt, fd, level, name, value, len);
 	enter(NULL);
 	x = socket_of(fd);

@@ -8,8 +8,10 @@
 #include <time.h>
 #include <unistd.h>
 
-enum { PATIENCE = 12 };		   /* rounds without a change behind which the program goes on, as long as it does something itself */
-enum { THREADS_WAIT = 200000000 }; /* nanoseconds without a change, where several threads make calls */
+enum { PATIENCE = 12 }; /* rounds without a change behind which the program goes on, as long as it does something itself */
+/* nanoseconds: without a change, and then behind SIGINT, where several threads make calls */
+#define THREADS_WAIT 500000000u
+#define THREADS_END 5000000000u
 
 struct settings settings;
 static pthread_mutex_t lock = PTHREAD_RECURSIVE_MUTEX_INITIALIZER_NP; /* a handler of a signal may end the program in a call */
@@ -18,8 +20,8 @@ static pthread_key_t known_threads;
 static pthread_once_t once = PTHREAD_ONCE_INIT;
 static uint32_t threads, waiting;
 static uint64_t entries, random_state;
-static uint64_t moved, moved_seen, quiet, quiet_since; /* changes of any bench, and calls since the last that found nothing */
-static uint64_t calls_since, moved_before;	       /* all calls since the last change */
+static uint64_t moved, moved_seen, quiet, quiet_since, interrupted; /* changes of any bench, and calls since the last that found nothing */
+static uint64_t calls_since, moved_before;			    /* all calls since the last change */
 static bool interrupts, ends;
 int xsk_model_pauses;
 
@@ -28,7 +30,7 @@ static void thread_ends(void *known)
 	(void)known;
 	pthread_mutex_lock(&lock);
 	threads--;
-	xsk_model_pauses = settings.seeded && threads > 1;
+	__atomic_store_n(&xsk_model_pauses, settings.seeded && threads > 1, __ATOMIC_RELAXED);
 	pthread_mutex_unlock(&lock);
 }
 
@@ -121,7 +123,7 @@ void enter(struct xsk_umem *u)
 	if (!pthread_getspecific(known_threads)) {
 		pthread_setspecific(known_threads, &lock);
 		threads++;
-		xsk_model_pauses = settings.seeded && threads > 1;
+		__atomic_store_n(&xsk_model_pauses, settings.seeded && threads > 1, __ATOMIC_RELAXED);
 	}
 	if (waiting)
 		pthread_cond_broadcast(&entered);
@@ -190,13 +192,17 @@ bool found_nothing(struct xsk_umem *u)
 			return true;
 	}
 	quiet++;
-	if (!settings.end || (quiet != settings.end && quiet != 2 * settings.end))
+	if (!settings.end || quiet < settings.end)
+		return false;
+	if (quiet == settings.end) {
+		write_all();
+		interrupts = true;
+		interrupted = now();
+	}
+	if (quiet < 2 * settings.end || (threads > 1 && now() - interrupted < THREADS_END))
 		return false;
 	write_all();
-	if (quiet == settings.end)
-		interrupts = true;
-	else
-		ends = true;
+	ends = true;
 	for (u = umems; u && ends; u = u->next)
 		tell_end(u);
 	return false;

@@ -170,7 +170,7 @@ int xsk_umem__create(struct xsk_umem **made, void *area, __u64 size, struct xsk_
 		registered = !atexit(at_exit);
 	creator = getpid();
 	u->next = umems;
-	umems = u;
+	__atomic_store_n(&umems, u, __ATOMIC_RELEASE);
 	leave();
 	*made = u;
 	return 0;

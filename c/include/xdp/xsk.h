@@ -126,7 +126,7 @@ XDP_ALWAYS_INLINE __u32 xsk_ring_prod__reserve(struct xsk_ring_prod *prod, __u32
 	}
 	*idx = prod->cached_prod;
 	prod->cached_prod += nb;
-	if (xsk_model_pauses)
+	if (__atomic_load_n(&xsk_model_pauses, __ATOMIC_RELAXED))
 		xsk_model_pause();
 	return nb;
 }
