@@ -44,7 +44,7 @@ ample_room l ample = record {
     rings (Tx s) has = subst (λ (k : SocketInfo). 32 ≤ unwrap_or k.tx 0) (sym (get_or-numbered (pairs_in l * l.sockets) (socket_in l) s _ (let count = length-numbered (pairs_in l * l.sockets) (socket_in l) in omega (arith, has.0, count)))) ample.tx
 
 none_stalls : (work : Work) (inputs : List (List ℕ)) (round : ℕ) → fault_in work ≡ None → HasAmple work → IsOutcome work inputs (stalled round) → ⊥
-none_stalls (Simulate layout programs wire manner order number journal format) inputs round accepted ample is =
+none_stalls (Simulate layout programs wire manner order number telling format) inputs round accepted ample is =
     let lists = is.1.0 in
     let run = is.1.2.1 in
     none_stands_still (setting_of layout programs wire manner lists) (frames_of layout) order round (record { regular = regular-regular layout (fits layout accepted); closes = ample.1 }) (ample_room layout ample.2) ample.0
@@ -60,7 +60,7 @@ never_stalled plan old new status round ends accepted ample is =
 
 -- and work on packets tells of no journal
 none_illegal : (work : Work) (inputs : List (List ℕ)) (line : ℕ) → IsIllegalIn work inputs line → IsOnPackets work → ⊥
-none_illegal (Simulate layout programs wire manner order number journal format) inputs line is packets = is
+none_illegal (Simulate layout programs wire manner order number telling format) inputs line is packets = is
 none_illegal (Generate number) inputs line is packets = is
 none_illegal (Audit layout) inputs line is packets = packets
 

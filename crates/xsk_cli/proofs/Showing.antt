@@ -181,14 +181,14 @@ written_comes work inputs o texts is old (BadPcapng cause) has = absurd has
 
 -- there is a text for each port
 pub shown_count : (work : Work) (lists : List (List (List ℕ))) (o : OutcomeShown) (texts : Written) → AreTextsFrom work lists o texts → length texts.outputs ≡ written_by work
-shown_count (Simulate layout programs wire manner order number journal format) lists o texts are = ap length are.sent ∙ count_texts format (sent_from layout programs lists o.history) layout.ports
+shown_count (Simulate layout programs wire manner order number telling format) lists o texts are = ap length are.sent ∙ count_texts format (sent_from layout programs lists o.history) layout.ports
 shown_count (Generate number) lists o texts are = absurd are
 shown_count (Audit layout) lists o texts are = absurd are
 
 -- for few ports
 pub few_written : (work : Work) → fault_in work ≡ None → written_by work ≤ 4
-few_written (Simulate layout programs wire manner order number journal Pcap) accepted = few_ports layout accepted
-few_written (Simulate layout programs wire manner order number journal Pcapng) accepted = omega arith
+few_written (Simulate layout programs wire manner order number telling Pcap) accepted = few_ports layout accepted
+few_written (Simulate layout programs wire manner order number telling Pcapng) accepted = omega arith
 few_written (Generate number) accepted = omega arith
 few_written (Audit layout) accepted = omega arith
 

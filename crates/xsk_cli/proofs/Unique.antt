@@ -92,8 +92,8 @@ bad_file_not_files Pcapng ports inputs c lists a b = refused_is_no_file ports (b
 -- ---- the packets
 
 pub same_packets : (work : Work) (inputs : List (List ℕ)) (some others : List (List (List ℕ))) → AreListsOf work inputs some → AreListsOf work inputs others → some ≡ others
-same_packets (Simulate layout programs wire manner order None journal format) inputs some others a b = same_files format layout.ports inputs some others a b
-same_packets (Simulate layout programs wire manner order (Some number) journal format) inputs some others a b = a.1 ∙ sym b.1
+same_packets (Simulate layout programs wire manner order None telling format) inputs some others a b = same_files format layout.ports inputs some others a b
+same_packets (Simulate layout programs wire manner order (Some number) telling format) inputs some others a b = a.1 ∙ sym b.1
 same_packets (Generate number) inputs some others a b = a.1 ∙ sym b.1
 same_packets (Audit layout) inputs some others a b = absurd a
 
@@ -107,14 +107,14 @@ none_bad_file Pcap ports inputs c none a = a
 none_bad_file Pcapng ports inputs c none a = omega (arith, a.known, ap length none)
 
 pub bad_not_packets : (work : Work) (inputs : List (List ℕ)) (p : ℕ) (c : Cause) (lists : List (List (List ℕ))) → HasBadCapture (format_in work) inputs p c → AreListsOf work inputs lists → ⊥
-bad_not_packets (Simulate layout programs wire manner order None journal format) inputs p c lists a b = bad_not_files format layout.ports inputs p c lists a b
-bad_not_packets (Simulate layout programs wire manner order (Some number) journal format) inputs p c lists a b = none_bad format inputs p c b.0 a
+bad_not_packets (Simulate layout programs wire manner order None telling format) inputs p c lists a b = bad_not_files format layout.ports inputs p c lists a b
+bad_not_packets (Simulate layout programs wire manner order (Some number) telling format) inputs p c lists a b = none_bad format inputs p c b.0 a
 bad_not_packets (Generate number) inputs p c lists a b = none_bad Pcap inputs p c b.0 a
 bad_not_packets (Audit layout) inputs p c lists a b = b
 
 pub bad_file_not_packets : (work : Work) (inputs : List (List ℕ)) (c : FileCause) (lists : List (List (List ℕ))) → HasBadFile (format_in work) (ports_in work) inputs c → AreListsOf work inputs lists → ⊥
-bad_file_not_packets (Simulate layout programs wire manner order None journal format) inputs c lists a b = bad_file_not_files format layout.ports inputs c lists a b
-bad_file_not_packets (Simulate layout programs wire manner order (Some number) journal format) inputs c lists a b = none_bad_file format layout.ports inputs c b.0 a
+bad_file_not_packets (Simulate layout programs wire manner order None telling format) inputs c lists a b = bad_file_not_files format layout.ports inputs c lists a b
+bad_file_not_packets (Simulate layout programs wire manner order (Some number) telling format) inputs c lists a b = none_bad_file format layout.ports inputs c b.0 a
 bad_file_not_packets (Generate number) inputs c lists a b = a
 bad_file_not_packets (Audit layout) inputs c lists a b = a
 
@@ -136,17 +136,17 @@ same_written a b outputs report =
     ∙ ap (λ report. made (record { outputs = b.outputs; report = report })) report
 
 one_made : (work : Work) (lists : List (List (List ℕ))) (a b : Written) → AreTextsBy work lists a → AreTextsBy work lists b → made a ≡ made b
-one_made (Simulate layout programs wire manner order number journal format) lists a b s t = same_written a b (same_outputs format layout programs wire manner order lists journal a b s t) (same_report format layout programs wire manner order lists journal a b s t)
+one_made (Simulate layout programs wire manner order number telling format) lists a b s t = same_written a b (same_outputs format layout programs wire manner order lists telling.journal a b s t) (same_report format layout programs wire manner order lists telling.journal a b s t)
 one_made (Generate number) lists a b s t = same_written a b (s.0 ∙ sym t.0) (s.1 ∙ sym t.1)
 one_made (Audit layout) lists a b s t = absurd s
 
 one_stall : (work : Work) (lists : List (List (List ℕ))) (r s : ℕ) → IsStalledBy work lists r → IsStalledBy work lists s → r ≡ s
-one_stall (Simulate layout programs wire manner order number journal format) lists r s x y = one_stalled_round (setting_of layout programs wire manner lists) (frames_of layout) order r s x y
+one_stall (Simulate layout programs wire manner order number telling format) lists r s x y = one_stalled_round (setting_of layout programs wire manner lists) (frames_of layout) order r s x y
 one_stall (Generate number) lists r s x y = absurd x
 one_stall (Audit layout) lists r s x y = absurd x
 
 no_texts_and_stall : (work : Work) (lists : List (List (List ℕ))) (texts : Written) (r : ℕ) → AreTextsBy work lists texts → IsStalledBy work lists r → ⊥
-no_texts_and_stall (Simulate layout programs wire manner order number journal format) lists texts r t x = ends_or_stalls (setting_of layout programs wire manner lists) (frames_of layout) order r t.run t.ended x
+no_texts_and_stall (Simulate layout programs wire manner order number telling format) lists texts r t x = ends_or_stalls (setting_of layout programs wire manner lists) (frames_of layout) order r t.run t.ended x
 no_texts_and_stall (Generate number) lists texts r t x = x
 no_texts_and_stall (Audit layout) lists texts r t x = x
 
@@ -227,12 +227,12 @@ data Later (work : Work) (inputs : List (List ℕ)) (outcome : Outcome) : Type 0
   is_found : (layout : Layout) → work ≡ Audit layout → IsAudited layout (bytes_of inputs 0) outcome → Later work inputs outcome
 
 made_later : (work : Work) (inputs : List (List ℕ)) (t : Written) → AreMadeOf work inputs t → Later work inputs (made t)
-made_later (Simulate layout programs wire manner order number journal format) inputs t h = is_in h
+made_later (Simulate layout programs wire manner order number telling format) inputs t h = is_in h
 made_later (Generate number) inputs t h = is_in h
 made_later (Audit layout) inputs t h = is_found layout refl h
 
 illegal_later : (work : Work) (inputs : List (List ℕ)) (line : ℕ) → IsIllegalIn work inputs line → Later work inputs (illegal line)
-illegal_later (Simulate layout programs wire manner order number journal format) inputs line h = absurd h
+illegal_later (Simulate layout programs wire manner order number telling format) inputs line h = absurd h
 illegal_later (Generate number) inputs line h = absurd h
 illegal_later (Audit layout) inputs line h = is_found layout refl h
 

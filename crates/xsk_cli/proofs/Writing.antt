@@ -251,6 +251,6 @@ ends_as Comes Others plan old new status says ends = record {
 
 -- there is a text for each port
 pub texts_count : (work : Work) (lists : List (List (List ℕ))) (texts : Written) → AreTextsBy work lists texts → length lists ≡ ports_in work → length texts.outputs ≡ written_by work
-texts_count (Simulate layout programs wire manner order number journal format) lists texts are count = ap length are.are.sent ∙ count_texts format (sent_from layout programs lists are.ended.history) layout.ports
+texts_count (Simulate layout programs wire manner order number telling format) lists texts are count = ap length are.are.sent ∙ count_texts format (sent_from layout programs lists are.ended.history) layout.ports
 texts_count (Generate number) lists texts are count = ap length are.0 ∙ length-map lists capture_of ∙ count
 texts_count (Audit layout) lists texts are count = absurd are

@@ -74,7 +74,7 @@ Answers work outcome status = Unit {0}
 
 -- files within the limits, where files are read, and so a journal, where one is
 abbrev pub AreTaken : Work → List (List ℕ) → Type 0
-AreTaken (Simulate layout programs wire manner order None journal format) inputs = AreShort (most_input format) inputs (length inputs) × ((lists : List (List (List ℕ))) × AreFiles format layout.ports inputs lists × (excess_of lists ≡ None))
+AreTaken (Simulate layout programs wire manner order None telling format) inputs = AreShort (most_input format) inputs (length inputs) × ((lists : List (List (List ℕ))) × AreFiles format layout.ports inputs lists × (excess_of lists ≡ None))
 AreTaken (Audit layout) inputs = AreShort (most_of (Audit layout)) inputs (length inputs)
 AreTaken work inputs = inputs ≡ []
 

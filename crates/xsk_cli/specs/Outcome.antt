@@ -71,8 +71,8 @@ made_lists number ports = map (λ port. first 2000 (packet number port)) (range_
 
 -- the packets of all ports: those of the files, or those that are made, where nothing is read
 abbrev pub AreListsOf : Work → List (List ℕ) → List (List (List ℕ)) → Type 0
-AreListsOf (Simulate layout programs wire manner order None journal format) inputs lists = AreFiles format layout.ports inputs lists
-AreListsOf (Simulate layout programs wire manner order (Some number) journal format) inputs lists = (inputs ≡ []) × (lists ≡ made_lists number layout.ports)
+AreListsOf (Simulate layout programs wire manner order None telling format) inputs lists = AreFiles format layout.ports inputs lists
+AreListsOf (Simulate layout programs wire manner order (Some number) telling format) inputs lists = (inputs ≡ []) × (lists ≡ made_lists number layout.ports)
 AreListsOf (Generate number) inputs lists = (inputs ≡ []) × (lists ≡ made_lists number 1)
 AreListsOf (Audit layout) inputs lists = ⊥
 
@@ -208,14 +208,14 @@ pub record AreTextsOf (format : Format) (layout : Layout) (programs : List Progr
 
 -- the texts that the work makes of packets: of a run, or of the packets themselves
 abbrev pub AreTextsBy : Work → List (List (List ℕ)) → Written → Type 0
-AreTextsBy (Simulate layout programs wire manner order number journal format) lists texts = AreTextsOf format layout programs wire manner order lists journal texts
+AreTextsBy (Simulate layout programs wire manner order number telling format) lists texts = AreTextsOf format layout programs wire manner order lists telling.journal texts
 AreTextsBy (Generate number) lists texts =
     (texts.outputs ≡ map capture_of lists) × (texts.report ≡ report_on (slice_index_or lists 0 []))
 AreTextsBy (Audit layout) lists texts = ⊥
 
 -- the work's run of packets stalls in a round
 abbrev pub IsStalledBy : Work → List (List (List ℕ)) → ℕ → Type 0
-IsStalledBy (Simulate layout programs wire manner order number journal format) lists round = HasStalled (setting_of layout programs wire manner lists) (frames_of layout) order round
+IsStalledBy (Simulate layout programs wire manner order number telling format) lists round = HasStalled (setting_of layout programs wire manner lists) (frames_of layout) order round
 IsStalledBy (Generate number) lists round = ⊥
 IsStalledBy (Audit layout) lists round = ⊥
 
@@ -247,19 +247,19 @@ IsAudited layout text outcome = ⊥
 
 -- work on packets, which are read or made, and not on a journal
 abbrev pub IsOnPackets : Work → Type 0
-IsOnPackets (Simulate layout programs wire manner order number journal format) = Unit {0}
+IsOnPackets (Simulate layout programs wire manner order number telling format) = Unit {0}
 IsOnPackets (Generate number) = Unit {0}
 IsOnPackets (Audit layout) = ⊥
 
 -- the texts that are made of inputs: of their packets, or of their journal
 abbrev pub AreMadeOf : Work → List (List ℕ) → Written → Type 0
-AreMadeOf (Simulate layout programs wire manner order number journal format) inputs texts = IsOutcomeIn (Simulate layout programs wire manner order number journal format) inputs (made texts)
+AreMadeOf (Simulate layout programs wire manner order number telling format) inputs texts = IsOutcomeIn (Simulate layout programs wire manner order number telling format) inputs (made texts)
 AreMadeOf (Generate number) inputs texts = IsOutcomeIn (Generate number) inputs (made texts)
 AreMadeOf (Audit layout) inputs texts = IsAudited layout (bytes_of inputs 0) (made texts)
 
 -- their journal isn't legal from a line on
 abbrev pub IsIllegalIn : Work → List (List ℕ) → ℕ → Type 0
-IsIllegalIn (Simulate layout programs wire manner order number journal format) inputs line = ⊥
+IsIllegalIn (Simulate layout programs wire manner order number telling format) inputs line = ⊥
 IsIllegalIn (Generate number) inputs line = ⊥
 IsIllegalIn (Audit layout) inputs line = IsAudited layout (bytes_of inputs 0) (illegal line)
 

@@ -53,13 +53,13 @@ plan_in plan = record { inputs = map (λ name. name.now) plan.inputs.now; output
 
 -- how many files are read, captures or one journal, and how many are written
 abbrev pub read_by : Work → ℕ
-read_by (Simulate layout programs wire manner order None journal format) = files_of format layout.ports
-read_by (Simulate layout programs wire manner order (Some number) journal format) = 0
+read_by (Simulate layout programs wire manner order None telling format) = files_of format layout.ports
+read_by (Simulate layout programs wire manner order (Some number) telling format) = 0
 read_by (Generate number) = 0
 read_by (Audit layout) = 1
 
 abbrev pub written_by : Work → ℕ
-written_by (Simulate layout programs wire manner order number journal format) = files_of format layout.ports
+written_by (Simulate layout programs wire manner order number telling format) = files_of format layout.ports
 written_by (Generate number) = 1
 written_by (Audit layout) = 0
 

@@ -26,7 +26,7 @@ use crate::lists::take_lists;
 use crate::programs::chain_of;
 use crate::setup::set_up;
 use crate::texts::{Texts, sent_outputs};
-use crate::words::{Plan, Work};
+use crate::words::{Plan, Telling, Work};
 use std::alloc::Global;
 use xsk_args::ProgramList;
 use xsk_io::Bay;
@@ -124,11 +124,11 @@ fn run_work(alloc: Global, work: &Work, lists: Vec<PacketList>) -> Result<Made<S
             wire,
             manner,
             order,
-            journal,
+            telling,
             format,
             ..
         } => run_texts(
-            alloc, *format, layout, programs, *wire, *manner, *order, *journal, lists,
+            alloc, *format, layout, programs, *wire, *manner, *order, *telling, lists,
         ),
         Work::Generate { .. } | Work::Audit { .. } => unreachable!(),
     }
@@ -144,7 +144,7 @@ fn run_texts(
     wire: Wire,
     manner: Manner,
     order: u32,
-    journal: bool,
+    telling: Telling,
     lists: Vec<PacketList>,
 ) -> Result<Made<Sent>, RunFailure>
     requires accepted { fault_of layout.now ≡ None }
@@ -152,7 +152,7 @@ fn run_texts(
     requires within { excess_of (lists_in lists.items) ≡ None }
     requires listed { lists.items ≡ map listed (lists_in lists.items) }
     requires short { All HasShortPackets lists.items }
-    ensures made { IfOk result (λ ran. AreTextsOf format layout.now programs.now wire manner order (lists_in lists.items) journal (written_in ran.left.lists ran.texts)) }
+    ensures made { IfOk result (λ ran. AreTextsOf format layout.now programs.now wire manner order (lists_in lists.items) telling.journal (written_in ran.left.lists ran.texts)) }
     ensures laid { IfOk result (λ ran. CanBeLaid ran.left.lists ran.texts.outputs) }
     ensures failed { IfErr result (FailsRunning layout.now programs.now wire manner order (lists_in lists.items)) }
 {
@@ -163,7 +163,7 @@ fn run_texts(
         wire,
         manner,
         order,
-        journal,
+        telling,
         lists.as_slice(),
     )?;
     let spare = spare_text(alloc, lists);
@@ -189,7 +189,7 @@ fn run_lists(
     wire: Wire,
     manner: Manner,
     order: u32,
-    journal: bool,
+    telling: Telling,
     lists: &[PacketList],
 ) -> Result<(Sent, Vec<u8>), RunFailure>
     requires accepted { fault_of layout.now ≡ None }
@@ -198,7 +198,7 @@ fn run_lists(
     requires short { All HasShortPackets lists.now }
     ensures pairs { IfOk result (λ ran. length ran.0.lists ≡ pairs_in layout.now) }
     ensures ended { IfOk result (λ ran. (run : Shown) × HasEnded (setting_of layout.now programs.now wire manner (lists_in lists.now)) (frames_of layout.now) order run
-        × IsSentBy run ran.0 × (ran.1.items ≡ report_text (regular_of layout.now) run.figures ++ (if journal then journal_of run.pairs run.log else []))) }
+        × IsSentBy run ran.0 × (ran.1.items ≡ report_text (regular_of layout.now) run.figures ++ (if telling.journal then journal_of run.pairs run.log else []))) }
     ensures failed { IfErr result (FailsRunning layout.now programs.now wire manner order (lists_in lists.now)) }
 {
     let (config, frames) = set_up(alloc, layout)?;
@@ -209,7 +209,7 @@ fn run_lists(
             move |packet: &[u8], queue: u32| rule.verdict(packet, queue),
         )
     })?;
-    if journal {
+    if telling.journal {
         let run = simulate(
             alloc, config, frames, lists, &mut chain, wire, order, manner,
         )?;
