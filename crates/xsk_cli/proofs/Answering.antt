@@ -82,7 +82,8 @@ module _ (plan : Plan) (old new : Moment) (inputs : List (List ℕ)) (told : Are
       (ends.texts, same_outcome (OpenFault (Output port)) (made ends.texts) outcome ends (reached (OpenFault (Output port)) _ ends ends.reaches.1) ends.comes h)
   answered (OpenFault Report) outcome ends words h = absurd ends.reaches
   answered (Refused unlawful) outcome ends words h = ends.comes
-  answered (Stalled round) outcome ends words h = same_outcome (Stalled round) (stalled round) outcome ends (reached (Stalled round) _ ends ends.reaches) ends.comes h
+  answered (Stalled round) outcome ends words h =
+      (ends.texts.report, same_outcome (Stalled round) (stalled round ends.texts.report) outcome ends (reached (Stalled round) _ ends ends.reaches) ends.comes h)
   answered (TooMuch (TooLong port)) outcome ends words h = one_outcome plan.work inputs outcome (long port) h (too_long port ends)
   answered (TooMuch (Packets n)) outcome ends words h =
       same_outcome (TooMuch (Packets n)) (passed (Packets n)) outcome ends (reached (TooMuch (Packets n)) _ ends ends.reaches) ends.comes h

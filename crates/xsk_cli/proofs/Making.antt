@@ -18,7 +18,7 @@ use Rattle.xsk_cli.specs.Steps.{AreUntaken, FailsAudit, FailsMaking, FailsRunnin
 use Rattle.xsk_cli.specs.declared.texts.Texts.{Texts}
 use Rattle.xsk_cli.specs.Words.{fault_in, most_of}
 use Rattle.xsk_cli.specs.declared.failure.RunFailure.{RunFailure}
-use Rattle.xsk_cli.specs.declared.failure.RunFailure.TheVariants.{BadCapture as Bad, TooMuch as Excessive, Stalled as Stalls, OutOfMemory as NoMemory, NotLegal as Breaks, BadPcapng as BadFile}
+use Rattle.xsk_cli.specs.declared.failure.RunFailure.TheVariants.{BadCapture as Bad, TooMuch as Excessive, Stalled as Stalls, Explained, OutOfMemory as NoMemory, NotLegal as Breaks, BadPcapng as BadFile}
 use Rattle.xsk_cli.specs.declared.format.Format.{Format}
 use Rattle.xsk_cli.specs.declared.format.Format.TheVariants.{Pcap, Pcapng}
 use Rattle.xsk_cli.proofs.Ports.{more_ports}
@@ -88,6 +88,7 @@ pub untaken_makes : (layout : Layout) (programs : List Program) (wire : Wire) (m
 untaken_makes layout programs wire manner order telling inputs (Bad port cause) h = (h.0, h.1, tt)
 untaken_makes layout programs wire manner order telling inputs (Excessive excess) h = h
 untaken_makes layout programs wire manner order telling inputs (Stalls round) h = absurd h
+untaken_makes layout programs wire manner order telling inputs (Explained round text) h = absurd h
 untaken_makes layout programs wire manner order telling inputs NoMemory h = h
 untaken_makes layout programs wire manner order telling inputs (Breaks line) h = absurd h
 untaken_makes layout programs wire manner order telling inputs (BadFile cause) h = absurd h
@@ -96,6 +97,7 @@ pub file_makes : (layout : Layout) (programs : List Program) (wire : Wire) (mann
 file_makes layout programs wire manner order telling inputs (Bad port cause) h = absurd h
 file_makes layout programs wire manner order telling inputs (Excessive excess) h = h
 file_makes layout programs wire manner order telling inputs (Stalls round) h = absurd h
+file_makes layout programs wire manner order telling inputs (Explained round text) h = absurd h
 file_makes layout programs wire manner order telling inputs NoMemory h = h
 file_makes layout programs wire manner order telling inputs (Breaks line) h = absurd h
 file_makes layout programs wire manner order telling inputs (BadFile cause) h = h
@@ -121,6 +123,7 @@ pub making_fails : (work : Work) (inputs : List (List ℕ)) (lists : List (List 
 making_fails work inputs lists (Bad at cause) short are within h = absurd h
 making_fails work inputs lists (Excessive excess) short are within h = absurd h
 making_fails work inputs lists (Stalls round) short are within h = (short, (lists, are, (within, h)))
+making_fails work inputs lists (Explained round text) short are within h = (h.0, (short, (lists, are, (within, h.1))), h.2)
 making_fails work inputs lists NoMemory short are within h = tt
 making_fails work inputs lists (Breaks line) short are within h = absurd h
 making_fails work inputs lists (BadFile cause) short are within h = absurd h
@@ -154,6 +157,7 @@ audit_fails layout inputs (Bad at cause) within h = absurd h
 audit_fails layout inputs (BadFile cause) within h = absurd h
 audit_fails layout inputs (Excessive excess) within h = absurd h
 audit_fails layout inputs (Stalls round) within h = absurd h
+audit_fails layout inputs (Explained round text) within h = absurd h
 audit_fails layout inputs NoMemory within h = tt
 audit_fails layout inputs (Breaks line) within h = (within, h)
 
@@ -163,9 +167,10 @@ audit_makes (Err failure) layout inputs within h = audit_fails layout inputs fai
 
 -- a run that gives nothing, as its work gives nothing
 pub run_makes : {A : Type 0} (layout : Layout) (programs : List Program) (wire : Wire) (manner : Manner) (order : ℕ) (number : Option ℕ) (telling : Telling) (format : Format) (lists : List (List (List ℕ)))
-    (r : Result A RunFailure) → IfErr r (FailsRunning layout programs wire manner order lists) → IfErr r (FailsMaking (Simulate layout programs wire manner order number telling format) lists)
+    (r : Result A RunFailure) → IfErr r (FailsRunning layout programs wire manner order telling lists) → IfErr r (FailsMaking (Simulate layout programs wire manner order number telling format) lists)
 run_makes layout programs wire manner order number telling format lists (Ok texts) fails = fails
 run_makes layout programs wire manner order number telling format lists (Err (Stalls round)) fails = fails
+run_makes layout programs wire manner order number telling format lists (Err (Explained round text)) fails = fails
 run_makes layout programs wire manner order number telling format lists (Err NoMemory) fails = tt
 run_makes layout programs wire manner order number telling format lists (Err (Bad port cause)) fails = absurd fails
 run_makes layout programs wire manner order number telling format lists (Err (Excessive excess)) fails = absurd fails

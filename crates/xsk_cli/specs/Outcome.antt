@@ -32,7 +32,7 @@ use Rattle.xsk_prog.specs.declared.rule.Verdict.{Verdict}
 use Rattle.xsk_turns.specs.Workers.{Setting, IsWholeRun, ruled_by, verdicts_to}
 use Rattle.xsk_turns.specs.declared.wire.Wire.{Wire}
 use Rattle.xsk_turns.specs.declared.wire.Wire.TheVariants.{Wait}
-use Rattle.xsk_sim.specs.Runs.{HasEnded, HasStalled}
+use Rattle.xsk_sim.specs.Runs.{HasEnded}
 use Rattle.xsk_pcap.specs.Written.{written}
 use Rattle.xsk_pcap.specs.declared.reading.BadCapture.{BadCapture as Cause}
 use Rattle.xsk_audit.specs.Telling.{IsVerdict}
@@ -40,6 +40,7 @@ use Rattle.xsk_audit.specs.declared.auditing.Verdicts.TheVariants.{Legal, NotLeg
 use Rattle.xsk_cli.specs.Judged.{bytes_of, AreShort, IsTooLong, excess_of}
 use Rattle.xsk_pcapng.specs.declared.reading.BadPcapng.{BadPcapng as FileCause}
 use Rattle.xsk_cli.specs.Format.{AreFiles, HasBadCapture, HasBadFile, outputs_of}
+use Rattle.xsk_cli.specs.Stalls.{IsStall}
 use Rattle.xsk_cli.specs.Words.{format_in, most_of, ports_in}
 use Rattle.xsk_cli.specs.declared.format.Format.{Format}
 use Rattle.xsk_cli.specs.declared.words.Work.{Work}
@@ -52,14 +53,14 @@ pub record Written : Type 0 where
   pub outputs : List (List ℕ)
   pub report : List ℕ
 
--- an input is too long, or no capture, or the one input is no pcapng file; the limits are passed; the run stalls in a round; or
--- there are texts; or a journal isn't legal from a line on
+-- an input is too long, or no capture, or the one input is no pcapng file; the limits are passed; the run stalls in a round, and
+-- so much is told of it behind the line of the stall; or there are texts; or a journal isn't legal from a line on
 pub data Outcome : Type 0 where
   long : ℕ → Outcome
   bad : ℕ → Cause → Outcome
   bad_file : FileCause → Outcome
   passed : Excess → Outcome
-  stalled : ℕ → Outcome
+  stalled : ℕ → List ℕ → Outcome
   made : Written → Outcome
   illegal : ℕ → Outcome
 
@@ -213,11 +214,12 @@ AreTextsBy (Generate number) lists texts =
     (texts.outputs ≡ map capture_of lists) × (texts.report ≡ report_on (slice_index_or lists 0 []))
 AreTextsBy (Audit layout) lists texts = ⊥
 
--- the work's run of packets stalls in a round
-abbrev pub IsStalledBy : Work → List (List (List ℕ)) → ℕ → Type 0
-IsStalledBy (Simulate layout programs wire manner order number telling format) lists round = HasStalled (setting_of layout programs wire manner lists) (frames_of layout) order round
-IsStalledBy (Generate number) lists round = ⊥
-IsStalledBy (Audit layout) lists round = ⊥
+-- the work's run of packets stalls in a round, and this is told of it
+abbrev pub IsStalledBy : Work → List (List (List ℕ)) → ℕ → List ℕ → Type 0
+IsStalledBy (Simulate layout programs wire manner order number telling format) lists round told =
+    IsStall (setting_of layout programs wire manner lists) (frames_of layout) order round telling told
+IsStalledBy (Generate number) lists round told = ⊥
+IsStalledBy (Audit layout) lists round told = ⊥
 
 -- ---- the outcome
 
@@ -227,7 +229,7 @@ IsOutcomeOf work lists (long port) = ⊥
 IsOutcomeOf work lists (bad port cause) = ⊥
 IsOutcomeOf work lists (bad_file cause) = ⊥
 IsOutcomeOf work lists (passed excess) = excess_of lists ≡ Some excess
-IsOutcomeOf work lists (stalled round) = (excess_of lists ≡ None) × IsStalledBy work lists round
+IsOutcomeOf work lists (stalled round told) = (excess_of lists ≡ None) × IsStalledBy work lists round told
 IsOutcomeOf work lists (made texts) = (excess_of lists ≡ None) × AreTextsBy work lists texts
 IsOutcomeOf work lists (illegal line) = ⊥
 
@@ -269,7 +271,7 @@ IsOutcome work inputs (long port) = IsTooLong (most_of work) inputs port
 IsOutcome work inputs (bad port cause) = AreShort (most_of work) inputs (length inputs) × HasBadCapture (format_in work) inputs port cause × IsOnPackets work
 IsOutcome work inputs (bad_file cause) = AreShort (most_of work) inputs (length inputs) × HasBadFile (format_in work) (ports_in work) inputs cause
 IsOutcome work inputs (passed excess) = AreShort (most_of work) inputs (length inputs) × IsOutcomeIn work inputs (passed excess)
-IsOutcome work inputs (stalled round) = AreShort (most_of work) inputs (length inputs) × IsOutcomeIn work inputs (stalled round)
+IsOutcome work inputs (stalled round told) = AreShort (most_of work) inputs (length inputs) × IsOutcomeIn work inputs (stalled round told)
 IsOutcome work inputs (made texts) = AreShort (most_of work) inputs (length inputs) × AreMadeOf work inputs texts
 IsOutcome work inputs (illegal line) = AreShort (most_of work) inputs (length inputs) × IsIllegalIn work inputs line
 
