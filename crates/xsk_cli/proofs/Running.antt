@@ -355,6 +355,10 @@ one_list-writable packets short few small = record {
   bytes = rw append-nil small;
 }
 
+pub unasked : (asked : Bool) → not asked ≡ true → asked ≡ false
+unasked true e = absurd (cc)
+unasked false e = refl
+
 -- nothing is told where nothing was asked for
 none_told : (telling : Telling) (c : Config) (rings : List Part) (h : List Entry) → telling.why ≡ false → told_on telling c rings h ≡ []
 none_told telling c rings h none =
@@ -366,7 +370,7 @@ engine_tells : (s : Setting) (frames : List Frame) (h : List Entry) (telling : T
 engine_tells s frames h telling engine run =
     ap (λ (k : Config). told_on telling k engine.rings engine.log) run.config
     ∙ ap (λ (parts : List Part). told_on telling s.config parts engine.log) (sym run.shows.rings)
-    ∙ ap (λ (l : List Entry). told_on telling s.config (map seen (state_after s.config frames h).rings) l) (run.log tt)
+    ∙ ap (λ (l : List Entry). told_on telling s.config (map seen (state_after s.config frames h).rings) l) (run.log refl)
 
 -- a run of the code's configuration, lists and frames
 stall_as : (layout : Layout) (programs : List Program) (wire : Wire) (manner : Manner) (order : ℕ) (c : Config) (own : List PacketList) (fs : List Frame) (lists : List (List (List ℕ))) (round : ℕ) (telling : Telling) (told : List ℕ)

@@ -21,13 +21,13 @@ use Rattle.xsk_cli.proofs.plain.run_plain.Goals as goal
 pub returns-clause-answer : goal.returns-clause-answer
 returns-clause-answer g c =
     let old : Moment = g.B.Bay.moment c.args.bay.now in
-    let mid : Moment = g.B.Bay.moment c.run_words.new.bay in
-    let new : Moment = g.B.Bay.moment c.tell.new.bay in
-    let answer = c.run_words.result in
+    let mid : Moment = g.B.Bay.moment c.run_words-answer.new.bay in
+    let new : Moment = g.B.Bay.moment c.tell_answer.new.bay in
+    let answer = c.run_words-answer.result in
     let status = status_in answer in
     let planned = plan_of (map string_bytes c.args.words.now) in
     let plan = unwrap_or planned no_plan in
-    let comes : Comes planned old mid answer = c.run_words.ensures in
+    let comes : Comes planned old mid answer = c.run_words-answer.ensures in
     let tells : TellsBy (ComesOf plan.work) plan old mid status (text_in answer) = comes.ends in
     let now : TellsBy (ComesOf plan.work) plan old new status (text_in answer) =
     told_with (ComesOf plan.work) plan old mid new status (text_in answer) tells c.tell_answer.ensures.opened c.tell_answer.ensures.asked c.tell_answer.ensures.left c.tell_answer.ensures.held c.tell_answer.ensures.offers c.tell_answer.ensures.silent in
@@ -53,18 +53,18 @@ returns-clause-answer g c =
 pub returns-clause-goes_on : goal.returns-clause-goes_on
 returns-clause-goes_on g c plan round is accepted ample stalled =
     let old : Moment = g.B.Bay.moment c.args.bay.now in
-    let mid : Moment = g.B.Bay.moment c.run_words.new.bay in
+    let mid : Moment = g.B.Bay.moment c.run_words-answer.new.bay in
     let planned : unwrap_or (plan_of (map string_bytes c.args.words.now)) no_plan ≡ plan = ap (λ o. unwrap_or o no_plan) is in
     let ends : Ends plan old mid c.status_of.result =
-    subst (λ p. Ends p old mid c.status_of.result) planned (subst (λ s. Ends (unwrap_or (plan_of (map string_bytes c.args.words.now)) no_plan) old mid s) (sym c.status_of.ensures) c.run_words.ensures.ends.0) in
+    subst (λ p. Ends p old mid c.status_of.result) planned (subst (λ s. Ends (unwrap_or (plan_of (map string_bytes c.args.words.now)) no_plan) old mid s) (sym c.status_of.ensures) c.run_words-answer.ensures.ends.0) in
     never_stalled plan old mid c.status_of.result round ends accepted ample stalled
 
 pub returns-clause-finishes : goal.returns-clause-finishes
 returns-clause-finishes g c plan inputs is accepted ample told taken none =
     let old : Moment = g.B.Bay.moment c.args.bay.now in
-    let mid : Moment = g.B.Bay.moment c.run_words.new.bay in
+    let mid : Moment = g.B.Bay.moment c.run_words-answer.new.bay in
     let planned : unwrap_or (plan_of (map string_bytes c.args.words.now)) no_plan ≡ plan = ap (λ o. unwrap_or o no_plan) is in
     let ends : Ends plan old mid c.status_of.result =
-    subst (λ p. Ends p old mid c.status_of.result) planned (subst (λ s. Ends (unwrap_or (plan_of (map string_bytes c.args.words.now)) no_plan) old mid s) (sym c.status_of.ensures) c.run_words.ensures.ends.0) in
+    subst (λ p. Ends p old mid c.status_of.result) planned (subst (λ s. Ends (unwrap_or (plan_of (map string_bytes c.args.words.now)) no_plan) old mid s) (sym c.status_of.ensures) c.run_words-answer.ensures.ends.0) in
     finished plan.work c.status_of.result ((returns-clause-answer g c).complete plan inputs is accepted told taken none) (λ round. returns-clause-goes_on g c plan round is accepted ample)
     (λ line. never_illegal plan old mid c.status_of.result line ends)
