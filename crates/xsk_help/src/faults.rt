@@ -2,7 +2,6 @@
 
 use crate::files::name_of;
 use crate::front::hint;
-use crate::journal::push_why;
 use std::alloc::{AllocError, Global};
 use std::fmt::Write;
 use std::rt::Files;
@@ -56,7 +55,6 @@ fn push_fault<R: Files>(
             writeln!(text, "xsk: {unlawful}\nxsk --help tells what is accepted")
         }
         Status::Stalled { .. } => text.push_str(STALLED),
-        Status::NotLegal { .. } => push_why(rt, alloc, text, words),
         _ => Ok(()),
     }
 }
