@@ -174,6 +174,8 @@ void write_all(void)
 		number++;
 	for (u = umems; u; u = u->next) {
 		number--;
+		if (u->deleted)
+			continue; /* it is written, and its ports may be another's */
 		for (uint32_t port = 0; port < u->port_count; port++)
 			write_capture(u, port);
 		write_journal(u, number);

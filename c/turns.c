@@ -63,7 +63,7 @@ static void read_once(void)
 
 void read_settings(void) { pthread_once(&once, read_once); }
 
-uint32_t next_random(void)
+static uint32_t next_random(void)
 {
 	random_state ^= random_state << 13;
 	random_state ^= random_state >> 7;
