@@ -6,14 +6,14 @@ from typing import NamedTuple
 from judge import PROGRAM as BROKE
 from judge import Judge, Refused
 from kernels import KERNEL, POSSIBLE, PROGRAM, Kernels
-from recording import GRANTED, REFUSED, Cancel, Entry, Free, Peek, Release, Reserve, Setting, Submit
+from recording import GRANTED, REFUSED, Cancel, Entry, Free, Peek, Release, Reserve, Ring, Setting, Submit
 
 CHUNK, DATA, OUTSIDE = 512, 256, 512 * 9
 
 
 class Alphabet(NamedTuple):
     """A setting, the entries that come into question on each kind of ring, and how calls are made: of one to `most` entries, with asking
-    for each number of `places`, with Cancel, with Free."""
+    for each number of `places`, with Cancel, with Free; and the calls that stand before all of them."""
 
     name: str
     setting: Setting
@@ -22,6 +22,7 @@ class Alphabet(NamedTuple):
     places: tuple = (1, 2)
     cancels: bool = False
     asks: bool = False
+    before: tuple = ()
 
     def calls(self):
         """The calls with their replies."""
@@ -91,6 +92,13 @@ def alphabets():
     yield Alphabet("all four rings", Setting(2, CHUNK, 0, wide, [(0, 2, 2)]), four, most=1, places=(1,))
     yield Alphabet("all four rings, two sockets", Setting(2, CHUNK, 0, wide, [(0, 1, 1)] * 2), four, most=1, places=(1,))
     yield Alphabet("all four rings, with cancel", Setting(2, CHUNK, 0, [(1, 1)], [(0, 1, 1)]), four, most=1, places=(1,), cancels=True)
+    fill, tx = Ring("fill", 0), Ring("tx", 0)
+    yield Alphabet("cancel on RX", Setting(2, CHUNK, 0, wide, [(0, 2, 1)]),
+                   {"fill": on_fill(1), "tx": on_tx(1), "rx": on_rx(2) + [Entry(DATA, 2)], "comp": []}, places=(1,), cancels=True,
+                   before=(Reserve(fill, 2, GRANTED), Submit(fill, tuple(on_fill(2)))))
+    yield Alphabet("cancel on COMPLETION", Setting(2, CHUNK, 0, wide, [(0, 0, 2)]),
+                   {"fill": on_fill(1), "tx": on_tx(1), "comp": on_fill(2) + [Entry(8)]}, places=(1,), cancels=True,
+                   before=(Reserve(tx, 2, GRANTED), Submit(tx, tuple(on_tx(2)))))
     laid = {"fill": on_fill(3), "tx": [Entry(f * CHUNK + DATA, 1, o) for f in range(3) for o in (0, 1)],
             "rx": on_rx(3) + [Entry(f * CHUNK + DATA, DATA, 1) for f in range(3)], "comp": [Entry(f * CHUNK + DATA) for f in range(3)]}
     yield Alphabet("all switches, two sockets", Setting(3, CHUNK, 0, wide, [(0, 2, 2)] * 2, ["sg", "own", "data"]), laid, most=1, places=(1,))
@@ -114,12 +122,15 @@ def replayed(setting, calls, first):
 
 
 def recordings(alphabet, length, all_of):
-    """All recordings of calls of an alphabet, up to a length, of which all calls but the last can be. Of those with more than `all_of` calls
-    that leave kernels and program in the same states only one goes on."""
+    """All recordings of so many calls of an alphabet, or fewer, of which all calls but the last can be. Of those with more than `all_of`
+    calls that leave kernels and program in the same states only one goes on."""
     setting, calls = alphabet.setting, list(alphabet.calls())
     kernels = Kernels(setting, {ring: alphabet.entries[ring.kind] for ring in setting.size if not ring.is_made})
     first = len(setting.header()) + 1
-    front = [((), kernels.start())]
+    states = kernels.start()
+    for call in alphabet.before:
+        _, states = kernels.call(states, call)
+    front = [(alphabet.before, states)]
     for count in range(1, length + 1):
         behind, seen = [], set()
         for before, states in front:
