@@ -10,7 +10,7 @@
 
 enum { PATIENCE = 12 }; /* rounds without a change behind which the program goes on, as long as it does something itself */
 /* nanoseconds: without a change, and then behind SIGINT, where several threads make calls */
-#define THREADS_WAIT 500000000u
+#define THREADS_WAIT 1000000000u
 #define THREADS_END 5000000000u
 
 struct settings settings;
