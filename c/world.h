@@ -129,7 +129,6 @@ void acted(struct xsk_umem *u);
 void give_round(struct xsk_umem *u);
 void settle(struct xsk_umem *u, uint32_t rounds);
 bool found_nothing(struct xsk_umem *u);
-uint32_t next_random(void);
 bool is_ending(void);
 void read_settings(void);
 /* tell.c */

@@ -2,6 +2,7 @@
 
 packets.py make FILE COUNT SEED       writes a capture of so many packets, of 60 to 1,400 bytes and from eight stations
 packets.py pings FILE COUNT SEED      the same, every third of them a ping (ICMPv6 echo request)
+packets.py jumbo FILE COUNT SEED      the same, of up to 9,000 bytes
 packets.py big IN OUT                 writes IN in the other byte order, with nanoseconds
 packets.py swapped IN OUT             whether OUT is IN with the MAC addresses of each packet swapped
 packets.py same IN OUT                whether OUT has the packets of IN
@@ -46,9 +47,9 @@ def icmp(source, target, kind, rest):
     return body[:2] + struct.pack(">H", checksum(head + body)) + body[4:]
 
 
-def plain(dice, number):
+def plain(dice, number, most):
     source = bytes([2, 0, 0, 0, 0, dice.randrange(16, 24)])
-    return bytes([2, 0, 0, 0, 0, 2]) + source + b"\x88\xb5" + struct.pack(">I", number) + dice.randbytes(dice.randrange(42, 1383))
+    return bytes([2, 0, 0, 0, 0, 2]) + source + b"\x88\xb5" + struct.pack(">I", number) + dice.randbytes(dice.randrange(42, most - 17))
 
 
 def ping(dice, number):
@@ -69,10 +70,11 @@ def is_ping(packet):
 
 
 def main(what, *words):
-    if what in ("make", "pings"):
+    if what in ("make", "pings", "jumbo"):
         dice = random.Random(int(words[2]))
+        most = 9000 if what == "jumbo" else 1400
         count = int(words[1])
-        write(words[0], [ping(dice, k) if what == "pings" and k % 3 == 0 else plain(dice, k) for k in range(count)])
+        write(words[0], [ping(dice, k) if what == "pings" and k % 3 == 0 else plain(dice, k, most) for k in range(count)])
         return 0
     if what == "big":
         write(words[1], read(words[0]), ">", 0xA1B23C4D)
