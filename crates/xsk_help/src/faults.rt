@@ -2,7 +2,6 @@
 
 use crate::files::name_of;
 use crate::front::hint;
-use crate::journal::push_why;
 use std::alloc::{AllocError, Global};
 use std::fmt::Write;
 use std::rt::Files;
@@ -14,7 +13,7 @@ use xsk_pcapng::BadPcapng;
 /// What to do where a run stalls.
 const STALLED: &str = "\
 xsk: nothing changed for 64 rounds, and some worker hadn't ended: a packet waits for frames or for room
-xsk: raise --frames, --rx or --comp, or say --wire drop
+xsk: raise --frames, --rx or --comp, or say --wire drop; --why tells what waits for what
 ";
 
 /// What is told of a status. It is nothing, where its line says all.
@@ -56,7 +55,6 @@ fn push_fault<R: Files>(
             writeln!(text, "xsk: {unlawful}\nxsk --help tells what is accepted")
         }
         Status::Stalled { .. } => text.push_str(STALLED),
-        Status::NotLegal { .. } => push_why(rt, alloc, text, words),
         _ => Ok(()),
     }
 }

@@ -6,7 +6,6 @@ mod command;
 mod faults;
 mod files;
 mod front;
-mod journal;
 mod options;
 mod usage;
 mod version;
