@@ -57,13 +57,11 @@ def merged(files, folder):
 
 
 def judged(name):
-    """What the judge in Python tells of a text, in lines. Where the program is there, `xsk check` must tell the same, and hints behind it."""
+    """What the judge in Python tells of a text, in lines. Where the program is there, `xsk check` must tell the same."""
     judges = [[sys.executable, "-B", JUDGE, name]] + [[PROGRAM, "check", name]] * os.access(PROGRAM, os.X_OK)
     said = [subprocess.run(judge, stdout=subprocess.PIPE, text=True, check=False) for judge in judges]
-    lines = said[0].stdout.splitlines()
-    for other in said[1:]:
-        assert (other.returncode, other.stdout.splitlines()[:len(lines)]) == (said[0].returncode, lines), (other.stdout[:500], lines)
-    return lines
+    assert len({(judge.returncode, judge.stdout) for judge in said}) == 1, [judge.stdout[:500] for judge in said]
+    return said[0].stdout.splitlines()
 
 
 def reason(lines):

@@ -1,7 +1,7 @@
 #!/usr/bin/env python3
 """The judge of recordings in Python: which call can't be, and why, in the words of `xsk check`.
 
-    tests/recordings/judge.py FILE      tells what `xsk check FILE` tells, but for the hints, and ends with its status
+    tests/recordings/judge.py FILE      tells what `xsk check FILE` tells, and ends with its status
 
 It keeps what a program's calls and replies leave, and no kernel: where each frame is, and of each ring a few numbers. That these rules are
 right is tried against all kernels (kernels.py); that the program keeps them too, by the scripts of this folder.
@@ -12,7 +12,7 @@ import sys
 from dataclasses import dataclass
 from typing import List, Optional
 
-from recording import GRANTED, REFUSED, Cancel, Free, Malformed, Peek, Reader, Release, Reserve, Ring, Submit, lines_of
+from recording import GRANTED, REFUSED, Cancel, Free, Malformed, Reader, Reserve, Ring, Submit, lines_of
 
 PROGRAM, KERNEL = "the program broke a rule", "no kernel answers so"
 NO_KERNEL = (b"a call isn't in the recording, an entry was changed after it was submitted, something wrote over the ring, or the kernel is "

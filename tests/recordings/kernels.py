@@ -8,7 +8,7 @@ one of the states to which kernels can have come. A kernel reserves places right
 
 from typing import NamedTuple, Tuple
 
-from recording import GRANTED, REFUSED, Cancel, Entry, Free, Peek, Release, Reserve, Submit
+from recording import GRANTED, REFUSED, Cancel, Entry, Free, Reserve, Submit
 
 POSSIBLE, PROGRAM, KERNEL = "possible", "program", "kernel"
 

@@ -63,5 +63,6 @@ def tried(program, megabytes):
             if first == f"possible {calls}" and peak <= least + MORE:
                 passed += 1
             else:
-                failed.append(f"{os.path.getsize(path)} bytes: '{first}' where 'possible {calls}' was due, with {peak} bytes at the peak, {least} of a short one")
+                failed.append(f"{os.path.getsize(path)} bytes: '{first}', where 'possible {calls}' was due; {peak} bytes at the peak, and "
+                              f"{least} with a short one")
     return passed, failed

@@ -3,7 +3,7 @@
 from dataclasses import replace
 
 from judge import Judge
-from recording import GRANTED, REFUSED, RESERVED, Cancel, Entry, Free, Peek, Release, Reserve, Setting, Submit, written
+from recording import GRANTED, REFUSED, RESERVED, SWITCHES, Cancel, Entry, Free, Peek, Release, Reserve, Setting, Submit, written
 
 TELLING = (Submit, Peek, Cancel)  # the calls that are changed most
 EDGES = [0, 1, 2**16, 2**31, 2**32 - 1, 2**32, 2**63, 2**64 - 1, 2**64, 10**20]  # numbers of which some have to be refused
@@ -15,7 +15,8 @@ def setting(rnd):
     chunk = headroom + RESERVED + rnd.choice((1, 4, 100, 256, 3840))
     pairs = [(rnd.choice((1, 2, 4, 8)), rnd.choice((1, 2, 4, 8))) for _ in range(rnd.randint(1, 3))]
     sockets = [(rnd.randrange(len(pairs)), *rnd.choice(((4, 4), (8, 2), (1, 1), (4, 0), (0, 4)))) for _ in range(rnd.randint(1, 4))]
-    return Setting(rnd.choice((2, 4, 8, 32)), chunk, headroom, pairs, sockets, [word for word in ("sg", "own", "data", "metadata") if rnd.random() < 0.4])
+    switches = [word for word in SWITCHES if rnd.random() < 0.4]
+    return Setting(rnd.choice((2, 4, 8, 32)), chunk, headroom, pairs, sockets, switches)
 
 
 class Walk:
