@@ -43,24 +43,24 @@ ample_room l ample = record {
     rings (Rx s) has = subst (λ (k : SocketInfo). 32 ≤ unwrap_or k.rx 0) (sym (socket_is s has)) ample.rx
     rings (Tx s) has = subst (λ (k : SocketInfo). 32 ≤ unwrap_or k.tx 0) (sym (get_or-numbered (pairs_in l * l.sockets) (socket_in l) s _ (let count = length-numbered (pairs_in l * l.sockets) (socket_in l) in omega (arith, has.0, count)))) ample.tx
 
-none_stalls : (work : Work) (inputs : List (List ℕ)) (round : ℕ) → fault_in work ≡ None → HasAmple work → IsOutcome work inputs (stalled round) → ⊥
-none_stalls (Simulate layout programs wire manner order number journal format) inputs round accepted ample is =
+none_stalls : (work : Work) (inputs : List (List ℕ)) (round : ℕ) (told : List ℕ) → fault_in work ≡ None → HasAmple work → IsOutcome work inputs (stalled round told) → ⊥
+none_stalls (Simulate layout programs wire manner order number telling format) inputs round told accepted ample is =
     let lists = is.1.0 in
     let run = is.1.2.1 in
     none_stands_still (setting_of layout programs wire manner lists) (frames_of layout) order round (record { regular = regular-regular layout (fits layout accepted); closes = ample.1 }) (ample_room layout ample.2) ample.0
-    (record { past = run.past; still = run.still })
-none_stalls (Generate number) inputs round accepted ample is = is.1.2.1
-none_stalls (Audit layout) inputs round accepted ample is = is.1.1
+    (record { past = run.stalled.past; still = run.stalled.still })
+none_stalls (Generate number) inputs round told accepted ample is = is.1.2.1
+none_stalls (Audit layout) inputs round told accepted ample is = is.1.1
 
 -- so no command ends so
 pub never_stalled : (plan : Plan) (old new : Moment) (status : Status) (round : ℕ) → Ends plan old new status → fault_in plan.work ≡ None → HasAmple plan.work → status ≡ Stalled round → ⊥
 never_stalled plan old new status round ends accepted ample is =
     let now : Ends plan old new (Stalled round) = subst (Ends plan old new) is ends in
-    none_stalls plan.work now.inputs round accepted ample now.comes
+    none_stalls plan.work now.inputs round now.texts.report accepted ample now.comes
 
 -- and work on packets tells of no journal
 none_illegal : (work : Work) (inputs : List (List ℕ)) (line : ℕ) → IsIllegalIn work inputs line → IsOnPackets work → ⊥
-none_illegal (Simulate layout programs wire manner order number journal format) inputs line is packets = is
+none_illegal (Simulate layout programs wire manner order number telling format) inputs line is packets = is
 none_illegal (Generate number) inputs line is packets = is
 none_illegal (Audit layout) inputs line is packets = packets
 

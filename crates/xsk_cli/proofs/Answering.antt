@@ -82,7 +82,8 @@ module _ (plan : Plan) (old new : Moment) (inputs : List (List ℕ)) (told : Are
       (ends.texts, same_outcome (OpenFault (Output port)) (made ends.texts) outcome ends (reached (OpenFault (Output port)) _ ends ends.reaches.1) ends.comes h)
   answered (OpenFault Report) outcome ends words h = absurd ends.reaches
   answered (Refused unlawful) outcome ends words h = ends.comes
-  answered (Stalled round) outcome ends words h = same_outcome (Stalled round) (stalled round) outcome ends (reached (Stalled round) _ ends ends.reaches) ends.comes h
+  answered (Stalled round) outcome ends words h =
+      (ends.texts.report, same_outcome (Stalled round) (stalled round ends.texts.report) outcome ends (reached (Stalled round) _ ends ends.reaches) ends.comes h)
   answered (TooMuch (TooLong port)) outcome ends words h = one_outcome plan.work inputs outcome (long port) h (too_long port ends)
   answered (TooMuch (Packets n)) outcome ends words h =
       same_outcome (TooMuch (Packets n)) (passed (Packets n)) outcome ends (reached (TooMuch (Packets n)) _ ends ends.reaches) ends.comes h
@@ -96,14 +97,14 @@ module _ (plan : Plan) (old new : Moment) (inputs : List (List ℕ)) (told : Are
   -- ---- completeness
 
   not_bad : (work : Work) → AreTaken work inputs → (port : ℕ) (cause : Cause) → IsOutcome work inputs (bad port cause) → ⊥
-  not_bad (Simulate layout programs wire manner order None journal format) taken port cause h = bad_not_files format layout.ports inputs port cause taken.1.0 h.1 taken.1.1
-  not_bad (Simulate layout programs wire manner order (Some number) journal format) taken port cause h = none_bad format inputs port cause taken h.1
+  not_bad (Simulate layout programs wire manner order None telling format) taken port cause h = bad_not_files format layout.ports inputs port cause taken.1.0 h.1 taken.1.1
+  not_bad (Simulate layout programs wire manner order (Some number) telling format) taken port cause h = none_bad format inputs port cause taken h.1
   not_bad (Generate number) taken port cause h = none_bad Pcap inputs port cause taken h.1
   not_bad (Audit layout) taken port cause h = h.2
 
   not_bad_file : (work : Work) → AreTaken work inputs → (cause : FileCause) → IsOutcome work inputs (bad_file cause) → ⊥
-  not_bad_file (Simulate layout programs wire manner order None journal format) taken cause h = bad_file_not_files format layout.ports inputs cause taken.1.0 h.1 taken.1.1
-  not_bad_file (Simulate layout programs wire manner order (Some number) journal format) taken cause h = none_bad_file format layout.ports inputs cause taken h.1
+  not_bad_file (Simulate layout programs wire manner order None telling format) taken cause h = bad_file_not_files format layout.ports inputs cause taken.1.0 h.1 taken.1.1
+  not_bad_file (Simulate layout programs wire manner order (Some number) telling format) taken cause h = none_bad_file format layout.ports inputs cause taken h.1
   not_bad_file (Generate number) taken cause h = h.1
   not_bad_file (Audit layout) taken cause h = h.1
 
@@ -114,15 +115,15 @@ module _ (plan : Plan) (old new : Moment) (inputs : List (List ℕ)) (told : Are
   made_not_passed lists number ports excess few are is = none_passed lists excess is (ap excess_of are ∙ made_within number ports few)
 
   not_passed : (work : Work) → fault_in work ≡ None → AreTaken work inputs → (excess : Excess) → IsOutcomeIn work inputs (passed excess) → ⊥
-  not_passed (Simulate layout programs wire manner order None journal format) accepted taken excess h =
+  not_passed (Simulate layout programs wire manner order None telling format) accepted taken excess h =
       none_passed h.0 excess h.2 (ap excess_of (same_files format layout.ports inputs h.0 taken.1.0 h.1 taken.1.1) ∙ taken.1.2)
-  not_passed (Simulate layout programs wire manner order (Some number) journal format) accepted taken excess h = made_not_passed h.0 number layout.ports excess (few_ports layout accepted) h.1.1 h.2
+  not_passed (Simulate layout programs wire manner order (Some number) telling format) accepted taken excess h = made_not_passed h.0 number layout.ports excess (few_ports layout accepted) h.1.1 h.2
   not_passed (Generate number) accepted taken excess h = made_not_passed h.0 number 1 excess (omega arith) h.1.1 h.2
   not_passed (Audit layout) accepted taken excess h = h.1
 
   all_short : (work : Work) → AreTaken work inputs → (port : ℕ) → port < length inputs → length (bytes_of inputs port) ≤ most_of work
-  all_short (Simulate layout programs wire manner order None journal format) taken port known = taken.0 port known
-  all_short (Simulate layout programs wire manner order (Some number) journal format) taken port known = absurd (omega (arith, known, ap length taken))
+  all_short (Simulate layout programs wire manner order None telling format) taken port known = taken.0 port known
+  all_short (Simulate layout programs wire manner order (Some number) telling format) taken port known = absurd (omega (arith, known, ap length taken))
   all_short (Generate number) taken port known = absurd (omega (arith, known, ap length taken))
   all_short (Audit layout) taken port known = taken port known
 

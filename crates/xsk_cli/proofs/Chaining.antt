@@ -8,12 +8,12 @@ use Rattle.xsk_io.specs.declared.bay.Stream.TheVariants.{Input, Report}
 use Rattle.xsk_io.proofs.Steps.{Adds-none, Rose-earlier}
 use Rattle.xsk_cli.specs.Cause.{IsCaused, NeverFalls}
 use Rattle.xsk_cli.specs.Outcome.{Written}
-use Rattle.xsk_cli.specs.Steps.{FailsWriting, read_status, run_status, write_status}
-use Rattle.xsk_cli.specs.Streams.{HasLine, IsAtOnce, IsSilent}
+use Rattle.xsk_cli.specs.Steps.{FailsWriting, read_status, run_refusal, write_status}
+use Rattle.xsk_cli.specs.Streams.{HasLine, IsAtOnce, IsSilent, refusal_status}
 use Rattle.xsk_cli.specs.declared.failure.ReadFailure.{ReadFailure}
 use Rattle.xsk_cli.specs.declared.failure.ReadFailure.TheVariants.{Unopened as NoInput, Unread, TooLong, OutOfMemory as NoRoom}
 use Rattle.xsk_cli.specs.declared.failure.RunFailure.{RunFailure}
-use Rattle.xsk_cli.specs.declared.failure.RunFailure.TheVariants.{BadCapture as Bad, TooMuch as Excessive, Stalled as Stalls, OutOfMemory as NoMemory, NotLegal as Breaks, BadPcapng as BadFile}
+use Rattle.xsk_cli.specs.declared.failure.RunFailure.TheVariants.{BadCapture as Bad, TooMuch as Excessive, Stalled as Stalls, Explained, OutOfMemory as NoMemory, NotLegal as Breaks, BadPcapng as BadFile}
 use Rattle.xsk_cli.specs.declared.failure.WriteFailure.{WriteFailure}
 use Rattle.xsk_cli.specs.declared.failure.WriteFailure.TheVariants.{Unopened, Unwritten}
 use Rattle.xsk_cli.specs.declared.status.Status.{Status}
@@ -27,10 +27,11 @@ read_begun (Unread port) at_once = at_once
 read_begun (TooLong port) at_once = at_once
 read_begun NoRoom at_once = at_once
 
-pub run_begun : (failure : RunFailure) → IsAtOnce (run_status failure) → ⊥
+pub run_begun : (failure : RunFailure) → IsAtOnce (refusal_status (run_refusal failure)) → ⊥
 run_begun (Bad port cause) at_once = at_once
 run_begun (Excessive excess) at_once = at_once
 run_begun (Stalls round) at_once = at_once
+run_begun (Explained round text) at_once = at_once
 run_begun NoMemory at_once = at_once
 run_begun (Breaks line) at_once = at_once
 run_begun (BadFile cause) at_once = at_once
@@ -51,10 +52,11 @@ unwritten_silent names texts old new (Unwritten stream) fails has = absurd has
 
 -- ---- causes
 
-pub run_caused : (old new : Kind → Stream → ℕ) (failure : RunFailure) → IsCaused old new (run_status failure)
+pub run_caused : (old new : Kind → Stream → ℕ) (failure : RunFailure) → IsCaused old new (refusal_status (run_refusal failure))
 run_caused old new (Bad port cause) = tt
 run_caused old new (Excessive excess) = tt
 run_caused old new (Stalls round) = tt
+run_caused old new (Explained round text) = tt
 run_caused old new NoMemory = tt
 run_caused old new (Breaks line) = tt
 run_caused old new (BadFile cause) = tt

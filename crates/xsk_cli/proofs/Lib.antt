@@ -10,6 +10,7 @@ pub mod Running
 pub mod Short
 pub mod Unique
 pub mod Answering
+pub mod Telling
 pub mod Coming
 pub mod Showing
 pub mod Making

@@ -18,12 +18,13 @@ use Rattle.xsk_cli.specs.Steps.{AreUntaken, FailsAudit, FailsMaking, FailsRunnin
 use Rattle.xsk_cli.specs.declared.texts.Texts.{Texts}
 use Rattle.xsk_cli.specs.Words.{fault_in, most_of}
 use Rattle.xsk_cli.specs.declared.failure.RunFailure.{RunFailure}
-use Rattle.xsk_cli.specs.declared.failure.RunFailure.TheVariants.{BadCapture as Bad, TooMuch as Excessive, Stalled as Stalls, OutOfMemory as NoMemory, NotLegal as Breaks, BadPcapng as BadFile}
+use Rattle.xsk_cli.specs.declared.failure.RunFailure.TheVariants.{BadCapture as Bad, TooMuch as Excessive, Stalled as Stalls, Explained, OutOfMemory as NoMemory, NotLegal as Breaks, BadPcapng as BadFile}
 use Rattle.xsk_cli.specs.declared.format.Format.{Format}
 use Rattle.xsk_cli.specs.declared.format.Format.TheVariants.{Pcap, Pcapng}
 use Rattle.xsk_cli.proofs.Ports.{more_ports}
 use Rattle.xsk_args.specs.declared.program.Program.{Program}
 use Rattle.xsk_turns.specs.declared.wire.Wire.{Wire}
+use Rattle.xsk_cli.specs.declared.words.Telling.{Telling}
 use Rattle.xsk_cli.specs.declared.words.Work.{Work}
 use Rattle.xsk_cli.specs.declared.words.Work.TheVariants.{Simulate, Generate, Audit}
 
@@ -32,9 +33,9 @@ few_ports layout accepted = omega (arith, (fits layout accepted).ports)
 
 -- a command reads few inputs
 pub few_read : (work : Work) → fault_in work ≡ None → read_by work ≤ 4
-few_read (Simulate layout programs wire manner order None journal Pcap) accepted = few_ports layout accepted
-few_read (Simulate layout programs wire manner order None journal Pcapng) accepted = omega arith
-few_read (Simulate layout programs wire manner order (Some number) journal format) accepted = omega arith
+few_read (Simulate layout programs wire manner order None telling Pcap) accepted = few_ports layout accepted
+few_read (Simulate layout programs wire manner order None telling Pcapng) accepted = omega arith
+few_read (Simulate layout programs wire manner order (Some number) telling format) accepted = omega arith
 few_read (Generate number) accepted = omega arith
 few_read (Audit layout) accepted = omega arith
 
@@ -83,21 +84,23 @@ is_made number list is = subst IsMade (sym (ap (λ (l : PacketList). l.packets) 
 
 -- ---- the work's packets
 
-pub untaken_makes : (layout : Layout) (programs : List Program) (wire : Wire) (manner : Manner) (order : ℕ) (journal : Bool) (inputs : List (List ℕ)) (failure : RunFailure) → AreUntaken inputs failure → MakesNone (Simulate layout programs wire manner order None journal Pcap) inputs failure
-untaken_makes layout programs wire manner order journal inputs (Bad port cause) h = (h.0, h.1, tt)
-untaken_makes layout programs wire manner order journal inputs (Excessive excess) h = h
-untaken_makes layout programs wire manner order journal inputs (Stalls round) h = absurd h
-untaken_makes layout programs wire manner order journal inputs NoMemory h = h
-untaken_makes layout programs wire manner order journal inputs (Breaks line) h = absurd h
-untaken_makes layout programs wire manner order journal inputs (BadFile cause) h = absurd h
+pub untaken_makes : (layout : Layout) (programs : List Program) (wire : Wire) (manner : Manner) (order : ℕ) (telling : Telling) (inputs : List (List ℕ)) (failure : RunFailure) → AreUntaken inputs failure → MakesNone (Simulate layout programs wire manner order None telling Pcap) inputs failure
+untaken_makes layout programs wire manner order telling inputs (Bad port cause) h = (h.0, h.1, tt)
+untaken_makes layout programs wire manner order telling inputs (Excessive excess) h = h
+untaken_makes layout programs wire manner order telling inputs (Stalls round) h = absurd h
+untaken_makes layout programs wire manner order telling inputs (Explained round text) h = absurd h
+untaken_makes layout programs wire manner order telling inputs NoMemory h = h
+untaken_makes layout programs wire manner order telling inputs (Breaks line) h = absurd h
+untaken_makes layout programs wire manner order telling inputs (BadFile cause) h = absurd h
 
-pub file_makes : (layout : Layout) (programs : List Program) (wire : Wire) (manner : Manner) (order : ℕ) (journal : Bool) (inputs : List (List ℕ)) (failure : RunFailure) → IsUntaken layout.ports inputs failure → MakesNone (Simulate layout programs wire manner order None journal Pcapng) inputs failure
-file_makes layout programs wire manner order journal inputs (Bad port cause) h = absurd h
-file_makes layout programs wire manner order journal inputs (Excessive excess) h = h
-file_makes layout programs wire manner order journal inputs (Stalls round) h = absurd h
-file_makes layout programs wire manner order journal inputs NoMemory h = h
-file_makes layout programs wire manner order journal inputs (Breaks line) h = absurd h
-file_makes layout programs wire manner order journal inputs (BadFile cause) h = h
+pub file_makes : (layout : Layout) (programs : List Program) (wire : Wire) (manner : Manner) (order : ℕ) (telling : Telling) (inputs : List (List ℕ)) (failure : RunFailure) → IsUntaken layout.ports inputs failure → MakesNone (Simulate layout programs wire manner order None telling Pcapng) inputs failure
+file_makes layout programs wire manner order telling inputs (Bad port cause) h = absurd h
+file_makes layout programs wire manner order telling inputs (Excessive excess) h = h
+file_makes layout programs wire manner order telling inputs (Stalls round) h = absurd h
+file_makes layout programs wire manner order telling inputs (Explained round text) h = absurd h
+file_makes layout programs wire manner order telling inputs NoMemory h = h
+file_makes layout programs wire manner order telling inputs (Breaks line) h = absurd h
+file_makes layout programs wire manner order telling inputs (BadFile cause) h = h
 
 pub none_of : {X : Type 0} (xs : List X) → length xs ≡ 0 → xs ≡ []
 none_of [] none = refl
@@ -120,6 +123,7 @@ pub making_fails : (work : Work) (inputs : List (List ℕ)) (lists : List (List 
 making_fails work inputs lists (Bad at cause) short are within h = absurd h
 making_fails work inputs lists (Excessive excess) short are within h = absurd h
 making_fails work inputs lists (Stalls round) short are within h = (short, (lists, are, (within, h)))
+making_fails work inputs lists (Explained round text) short are within h = (h.0, (short, (lists, are, (within, h.1))), h.2)
 making_fails work inputs lists NoMemory short are within h = tt
 making_fails work inputs lists (Breaks line) short are within h = absurd h
 making_fails work inputs lists (BadFile cause) short are within h = absurd h
@@ -139,7 +143,7 @@ made_more number port lists list all are bare is pushed =
 
 -- texts of packets are made of the inputs
 pub packets_made : (work : Work) (inputs : List (List ℕ)) (lists : List (List (List ℕ))) (texts : Written) → AreListsOf work inputs lists → excess_of lists ≡ None → AreTextsBy work lists texts → AreMadeOf work inputs texts
-packets_made (Simulate layout programs wire manner order number journal format) inputs lists texts are within is = (lists, are, (within, is))
+packets_made (Simulate layout programs wire manner order number telling format) inputs lists texts are within is = (lists, are, (within, is))
 packets_made (Generate number) inputs lists texts are within is = (lists, are, (within, is))
 packets_made (Audit layout) inputs lists texts are within is = absurd are
 
@@ -153,6 +157,7 @@ audit_fails layout inputs (Bad at cause) within h = absurd h
 audit_fails layout inputs (BadFile cause) within h = absurd h
 audit_fails layout inputs (Excessive excess) within h = absurd h
 audit_fails layout inputs (Stalls round) within h = absurd h
+audit_fails layout inputs (Explained round text) within h = absurd h
 audit_fails layout inputs NoMemory within h = tt
 audit_fails layout inputs (Breaks line) within h = (within, h)
 
@@ -161,12 +166,13 @@ audit_makes (Ok texts) layout inputs within h = tt
 audit_makes (Err failure) layout inputs within h = audit_fails layout inputs failure within h
 
 -- a run that gives nothing, as its work gives nothing
-pub run_makes : {A : Type 0} (layout : Layout) (programs : List Program) (wire : Wire) (manner : Manner) (order : ℕ) (number : Option ℕ) (journal : Bool) (format : Format) (lists : List (List (List ℕ)))
-    (r : Result A RunFailure) → IfErr r (FailsRunning layout programs wire manner order lists) → IfErr r (FailsMaking (Simulate layout programs wire manner order number journal format) lists)
-run_makes layout programs wire manner order number journal format lists (Ok texts) fails = fails
-run_makes layout programs wire manner order number journal format lists (Err (Stalls round)) fails = fails
-run_makes layout programs wire manner order number journal format lists (Err NoMemory) fails = tt
-run_makes layout programs wire manner order number journal format lists (Err (Bad port cause)) fails = absurd fails
-run_makes layout programs wire manner order number journal format lists (Err (Excessive excess)) fails = absurd fails
-run_makes layout programs wire manner order number journal format lists (Err (Breaks line)) fails = absurd fails
-run_makes layout programs wire manner order number journal format lists (Err (BadFile cause)) fails = absurd fails
+pub run_makes : {A : Type 0} (layout : Layout) (programs : List Program) (wire : Wire) (manner : Manner) (order : ℕ) (number : Option ℕ) (telling : Telling) (format : Format) (lists : List (List (List ℕ)))
+    (r : Result A RunFailure) → IfErr r (FailsRunning layout programs wire manner order telling lists) → IfErr r (FailsMaking (Simulate layout programs wire manner order number telling format) lists)
+run_makes layout programs wire manner order number telling format lists (Ok texts) fails = fails
+run_makes layout programs wire manner order number telling format lists (Err (Stalls round)) fails = fails
+run_makes layout programs wire manner order number telling format lists (Err (Explained round text)) fails = fails
+run_makes layout programs wire manner order number telling format lists (Err NoMemory) fails = tt
+run_makes layout programs wire manner order number telling format lists (Err (Bad port cause)) fails = absurd fails
+run_makes layout programs wire manner order number telling format lists (Err (Excessive excess)) fails = absurd fails
+run_makes layout programs wire manner order number telling format lists (Err (Breaks line)) fails = absurd fails
+run_makes layout programs wire manner order number telling format lists (Err (BadFile cause)) fails = absurd fails

@@ -16,9 +16,10 @@ use Rattle.xsk_socket.proofs.Accepted.{files_are, fits}
 use Rattle.xsk_cli.specs.Format.{files_of}
 use Rattle.xsk_cli.specs.declared.format.Format.{Format}
 use Rattle.xsk_cli.specs.declared.format.Format.TheVariants.{Pcap, Pcapng}
-use Rattle.xsk_cli.specs.Words.{Plan, are_enough, are_made, counted, do_go_together, fault_in, go_together, suits_hands, files_counted, files_in, format_of, has_files, is_planned, layout_by, inputs_named, manner_of, number_of, number_or, plan_by, plan_of, planned_by, ports_of, programs_of, wanted_per_port, wire_of}
+use Rattle.xsk_cli.specs.Words.{Plan, are_enough, are_made, counted, do_go_together, fault_in, go_together, suits_hands, telling_of, files_counted, files_in, format_of, has_files, is_planned, layout_by, inputs_named, manner_of, number_of, number_or, plan_by, plan_of, planned_by, ports_of, programs_of, wanted_per_port, wire_of}
 use Rattle.xsk_cli.specs.Steps.{IsReady}
 use Rattle.xsk_cli.proofs.Making.{few_ports}
+use Rattle.xsk_cli.specs.declared.words.Telling.{Telling}
 use Rattle.xsk_cli.specs.declared.words.Work.TheVariants.{Simulate}
 use Rattle.std.proofs.lemmas.List.{length-drop, length-take-le}
 
@@ -47,16 +48,16 @@ some_files said enough accepted none =
     omega (arith, files_named said enough accepted, ap (λ o. length (unwrap_or o [])) none, some_format (format_of said) (ports_of said) ports)
 
 -- the plan that words ask for wants the files that they name
-ready_by : (layout : Layout) (programs : List Program) (wire : Wire) (manner : Manner) (order : ℕ) (number : Option ℕ) (journal : Bool) (format : Format) (files : List Text) → fault_of layout ≡ None → suits_hands layout manner ≡ true
+ready_by : (layout : Layout) (programs : List Program) (wire : Wire) (manner : Manner) (order : ℕ) (number : Option ℕ) (telling : Telling) (format : Format) (files : List Text) → fault_of layout ≡ None → suits_hands layout manner ≡ true
     → length files ≡ cond (is_some number) 0 (files_of format layout.ports) + files_of format layout.ports
-    → IsReady (record { inputs = take (cond (is_some number) 0 (files_of format layout.ports)) files; outputs = drop (cond (is_some number) 0 (files_of format layout.ports)) files; work = Simulate layout programs wire manner order number journal format })
-ready_by layout programs wire manner order None journal format files accepted suits count = record {
+    → IsReady (record { inputs = take (cond (is_some number) 0 (files_of format layout.ports)) files; outputs = drop (cond (is_some number) 0 (files_of format layout.ports)) files; work = Simulate layout programs wire manner order number telling format })
+ready_by layout programs wire manner order None telling format files accepted suits count = record {
   accepted = accepted;
   suits = suits;
   inputs = length-take-le (files_of format layout.ports) files (omega (arith, count));
   outputs = omega (arith, length-drop (files_of format layout.ports) files, count);
 }
-ready_by layout programs wire manner order (Some n) journal format files accepted suits count = record {
+ready_by layout programs wire manner order (Some n) telling format files accepted suits count = record {
   accepted = accepted;
   suits = suits;
   inputs = refl;
@@ -94,7 +95,7 @@ plan_ready said plan planned is accepted =
     let enough = enough_files said planned in
     let none : fault_of (layout_by said) ≡ None = subst (λ (p : Plan). fault_in p.work ≡ None) is accepted in
     subst IsReady (sym is)
-    (ready_by (layout_by said) (programs_of said) (wire_of said) (manner_of said) (number_or said (codes "order") 0) (number_of said (codes "gen")) (is_some (said (codes "journal"))) (format_of said) (files_in said) none (suits_words said planned none) (files_named said enough none))
+    (ready_by (layout_by said) (programs_of said) (wire_of said) (manner_of said) (number_or said (codes "order") 0) (number_of said (codes "gen")) (telling_of said) (format_of said) (files_in said) none (suits_words said planned none) (files_named said enough none))
 
 -- the plan of words with as many files as they want, and none of others
 pub has_plan : (said : Meaning) (meant : Option Meaning) → meant ≡ Some said → is_planned said ≡ true → option_and_then planned_by meant ≡ Some (plan_by said)

@@ -1,6 +1,6 @@
 -- What a run of the command sent is what is expected at each port and queue and what goes back there, and fits the captures of the
 -- ports.
-use Rattle.std.proofs.Common.{◌≡◌, ℕ, suc, ◌+◌, ◌*◌, ◌<◌, ◌≤◌, List, [], ◌∷◌, length, map, get_or, take, drop, refl, sym, ap, ◌∙◌, subst, arith, None, inl, inr, ⊎_elim, append-nil, mul-le-mul_right}
+use Rattle.std.proofs.Common.{◌≡◌, ℕ, false, suc, ◌+◌, ◌*◌, ◌<◌, ◌≤◌, List, [], ◌∷◌, length, map, get_or, take, drop, refl, sym, ap, ◌∙◌, subst, arith, None, inl, inr, ⊎_elim, append-nil, mul-le-mul_right}
 use Rattle.std.specs.Prelude.{All, ◌++◌, Bool, if◌then◌else◌, Option, Some, is_some, not, true, ◌&&◌, ◌==◌, ◌⊎◌}
 use Rattle.std.proofs.lemmas.Bool.{and_parts, eqb-true, or_cases}
 use Rattle.std.specs.List.{concat, range_with_len}
@@ -15,7 +15,9 @@ use Rattle.xsk_umem.specs.PacketList.{PacketList}
 use Rattle.xsk_umem.specs.Frame.{Frame}
 use Rattle.xsk_model.specs.Config.{Config, classes_of, callers_of}
 use Rattle.xsk_model.specs.Entry.{Entry, own}
-use Rattle.xsk_model.specs.History.{IsHistory}
+use Rattle.xsk_model.specs.History.{IsHistory, state_after}
+use Rattle.xsk_model.specs.Stored.{stored}
+use Rattle.xsk_plain.specs.Engine.{Engine, Part, seen}
 use Rattle.xsk_model.specs.Rings.{caller_of}
 use Rattle.xsk_model.specs.Sent.{all_sent, bounced_of}
 use Rattle.xsk_model.specs.Steering.{paired_port, driver_on, socket_on}
@@ -43,14 +45,19 @@ use Rattle.xsk_workers.specs.Forwarded.{OutcomeShown, HasForwarded}
 use Rattle.xsk_workers.specs.Hands.{SuitHands}
 use Rattle.xsk_cli.specs.Forward.{unmangled}
 use Rattle.xsk_cli.specs.Words.{suits_hands}
-use Rattle.xsk_sim.specs.Runs.{HasEnded, HasEndedUnder, HasStalled, HasStalledUnder}
+use Rattle.xsk_sim.specs.Left.{HasStalledOnUnder}
+use Rattle.xsk_sim.specs.Runs.{HasEnded, HasEndedUnder, HasStalledUnder}
+use Rattle.xsk_sim.specs.Server.{logged_seen}
+use Rattle.xsk_sim.specs.Turning.{HasRun}
 use Rattle.xsk_sim.specs.declared.simulation.SimError.{SimError}
 use Rattle.xsk_sim.specs.declared.simulation.SimError.TheVariants.{Stalled as HasNoEnd, OutOfMemory as RunMemory}
 use Rattle.xsk_sim.specs.Journal.{journal_of}
 use Rattle.xsk_sim.specs.Shown.{HasShortPackets, Shown}
 use Rattle.xsk_sim.proofs.InRounds.{entries_stand_in_rounds}
 use Rattle.xsk_sim.proofs.Journaling.{journal_stored}
-use Rattle.xsk_sim.proofs.Verdicts.{ends_as_ruled, stalls_as_ruled}
+use Rattle.xsk_sim.proofs.Verdicts.{ends_as_ruled}
+use Rattle.xsk_turns.proofs.Verdicts.{one_setting}
+use Rattle.xsk_why.specs.Why.{why_text}
 use Rattle.xsk_laws.specs.Laws.{AreEndedRunsBy, AreWholeRunsBy}
 use Rattle.xsk_ended.specs.Until.{AreExpectedUntil, AreForwardedUntil}
 use Rattle.xsk_ended.proofs.Ended.{ended_bounced_as_said, ended_is_within}
@@ -70,7 +77,11 @@ use Rattle.xsk_cli.specs.Judged.{excess_of}
 use Rattle.xsk_cli.specs.declared.format.Format.{Format}
 use Rattle.xsk_stats.specs.Report.{report_text}
 use Rattle.xsk_cli.specs.Outcome.{Written, listed, setting_of, verdicts_by, frames_of, sent_on, sent_from, going_on, going_back, rules_by, report_of, told_of, AreTextsIn, AreTextsOf, NoneGoesBack, sent_on_by}
-use Rattle.xsk_cli.specs.Steps.{FailsRunning, lists_in, sim_failure}
+use Rattle.xsk_cli.specs.Stalls.{IsStall, told_of_stall, told_on}
+use Rattle.xsk_cli.specs.Steps.{FailsRunning, IsExplained, IsStallText, lists_in, sim_failure}
+use Rattle.xsk_cli.specs.declared.failure.RunFailure.{RunFailure}
+use Rattle.xsk_cli.specs.declared.failure.RunFailure.TheVariants.{BadCapture as Bad, TooMuch as Excessive, Stalled as Stalls, Explained, OutOfMemory as NoMemory, NotLegal as Breaks, BadPcapng as BadFile}
+use Rattle.xsk_cli.specs.declared.words.Telling.{Telling}
 use Rattle.xsk_cli.proofs.Going.{bounced_goes_back, classes_are, expected_goes_on, are_exact_by, packets_there}
 use Rattle.xsk_cli.proofs.Judging.{limits_of}
 use Rattle.xsk_cli.proofs.Ports.{same_map}
@@ -344,14 +355,33 @@ one_list-writable packets short few small = record {
   bytes = rw append-nil small;
 }
 
+pub unasked : (asked : Bool) → not asked ≡ true → asked ≡ false
+unasked true e = absurd (cc)
+unasked false e = refl
+
+-- nothing is told where nothing was asked for
+none_told : (telling : Telling) (c : Config) (rings : List Part) (h : List Entry) → telling.why ≡ false → told_on telling c rings h ≡ []
+none_told telling c rings h none =
+    subst (λ (asked : Bool). (if asked then why_text c rings h ++ (if telling.journal then journal_of (length c.pairs) h else []) else []) ≡ []) (sym none) refl
+
+-- what is told of the object on which a run stalled is told of its history
+engine_tells : (s : Setting) (frames : List Frame) (h : List Entry) (telling : Telling) (engine : Engine) → HasRun s frames h (logged_seen engine)
+    → told_on telling engine.config engine.rings engine.log ≡ told_of_stall telling s.config frames h
+engine_tells s frames h telling engine run =
+    ap (λ (k : Config). told_on telling k engine.rings engine.log) run.config
+    ∙ ap (λ (parts : List Part). told_on telling s.config parts engine.log) (sym run.shows.rings)
+    ∙ ap (λ (l : List Entry). told_on telling s.config (map seen (state_after s.config frames h).rings) l) (run.log refl)
+
 -- a run of the code's configuration, lists and frames
-pub stalled_as : (layout : Layout) (programs : List Program) (wire : Wire) (manner : Manner) (order : ℕ) (c : Config) (own : List PacketList) (fs : List Frame) (lists : List (List (List ℕ))) (round : ℕ) → c ≡ regular_of layout → own ≡ map listed lists
-    → fs ≡ frames_of layout → (verdicts : List (List Verdict)) → IsRuled (rules_by layout.sockets programs) (record { config = c; wire = wire; manner = manner; packets = own; verdicts = verdicts })
-    → HasStalled (record { config = c; wire = wire; manner = manner; packets = own; verdicts = verdicts }) fs order round → HasStalled (setting_of layout programs wire manner lists) (frames_of layout) order round
-stalled_as layout programs wire manner order c own fs lists round is_config is_own is_frames verdicts is h =
-    subst (λ f. HasStalled (setting_of layout programs wire manner lists) f order round) is_frames
-    (subst (λ (l : List PacketList). HasStalled (ruled_by (rules_by layout.sockets programs) wire manner (regular_of layout) l) fs order round) is_own
-    (subst (λ (k : Config). HasStalled (ruled_by (rules_by layout.sockets programs) wire manner k own) fs order round) is_config (stalls_as_ruled (rules_by layout.sockets programs) (record { config = c; wire = wire; manner = manner; packets = own; verdicts = verdicts }) fs order round (are_exact_by layout.sockets programs) is h)))
+stall_as : (layout : Layout) (programs : List Program) (wire : Wire) (manner : Manner) (order : ℕ) (c : Config) (own : List PacketList) (fs : List Frame) (lists : List (List (List ℕ))) (round : ℕ) (telling : Telling) (told : List ℕ)
+    → c ≡ regular_of layout → own ≡ map listed lists → fs ≡ frames_of layout → (verdicts : List (List Verdict))
+    → IsRuled (rules_by layout.sockets programs) (record { config = c; wire = wire; manner = manner; packets = own; verdicts = verdicts })
+    → IsStall (record { config = c; wire = wire; manner = manner; packets = own; verdicts = verdicts }) fs order round telling told → IsStall (setting_of layout programs wire manner lists) (frames_of layout) order round telling told
+stall_as layout programs wire manner order c own fs lists round telling told is_config is_own is_frames verdicts is h =
+    subst (λ f. IsStall (setting_of layout programs wire manner lists) f order round telling told) is_frames
+    (subst (λ (l : List PacketList). IsStall (ruled_by (rules_by layout.sockets programs) wire manner (regular_of layout) l) fs order round telling told) is_own
+    (subst (λ (k : Config). IsStall (ruled_by (rules_by layout.sockets programs) wire manner k own) fs order round telling told) is_config
+    (subst (λ (s : Setting). IsStall s fs order round telling told) (one_setting (rules_by layout.sockets programs) (record { config = c; wire = wire; manner = manner; packets = own; verdicts = verdicts }) (are_exact_by layout.sockets programs) is) h)))
 
 pub ended_as : (layout : Layout) (programs : List Program) (wire : Wire) (manner : Manner) (order : ℕ) (c : Config) (own : List PacketList) (fs : List Frame) (lists : List (List (List ℕ))) (run : Shown) → c ≡ regular_of layout → own ≡ map listed lists
     → fs ≡ frames_of layout → (verdicts : List (List Verdict)) → IsRuled (rules_by layout.sockets programs) (record { config = c; wire = wire; manner = manner; packets = own; verdicts = verdicts })
@@ -372,9 +402,41 @@ module _ {F : Type 0} (g : Shared F (Bor (List ℕ) × (ℕ × Unit {0})) Verdic
   pub ended_under : (after : List (XdpProgram F)) (run : Shown) → HasEndedUnder g chain after wire manner c own fs order run → HasEnded (setting_of layout programs wire manner lists) (frames_of layout) order run
   ended_under after run under = ended_as layout programs wire manner order c own fs lists run is_config is_own is_frames under.verdicts (ruled under.verdicts under.asked) under.ended
 
-  -- and so one fails
-  pub failed_under : (after : List (XdpProgram F)) (error : SimError) → ((round : ℕ) → error ≡ HasNoEnd round → HasStalledUnder g chain after wire manner c own fs order round) → FailsRunning layout programs wire manner order lists (sim_failure error)
-  failed_under after (HasNoEnd round) stalled =
+  -- and so one stalls, of which nothing more is told
+  pub failed_under : (after : List (XdpProgram F)) (telling : Telling) (error : SimError) → telling.why ≡ false → ((round : ℕ) → error ≡ HasNoEnd round → HasStalledUnder g chain after wire manner c own fs order round)
+      → FailsRunning layout programs wire manner order telling lists (sim_failure error)
+  failed_under after telling (HasNoEnd round) none stalled =
       let under = stalled round refl in
-      stalled_as layout programs wire manner order c own fs lists round is_config is_own is_frames under.verdicts (ruled under.verdicts under.asked) under.stalled
-  failed_under after RunMemory stalled = tt
+      let stall : IsStall (setting_by c wire manner own under.verdicts) fs order round telling [] = record {
+        stalled = under.stalled;
+        tells = sym (none_told telling c (map seen (state_after c fs under.stalled.past.history).rings) (stored c.geometry c.sg under.stalled.past.history) none);
+      } in
+      stall_as layout programs wire manner order c own fs lists round telling [] is_config is_own is_frames under.verdicts (ruled under.verdicts under.asked) stall
+  failed_under after telling RunMemory none stalled = tt
+
+  -- or more is, of the object on which it stalled
+  stalled_under : (after : List (XdpProgram F)) (telling : Telling) (round : ℕ) (engine : Engine) (told : List ℕ) → HasStalledOnUnder g chain after wire manner c own fs order round (logged_seen engine)
+      → told_on telling engine.config engine.rings engine.log ≡ told → IsStall (setting_of layout programs wire manner lists) (frames_of layout) order round telling told
+  stalled_under after telling round engine told on is =
+      let under = on.under in
+      let stall : IsStall (setting_by c wire manner own under.verdicts) fs order round telling told = record {
+        stalled = under.stalled;
+        tells = sym is ∙ engine_tells (setting_by c wire manner own under.verdicts) fs under.stalled.past.history telling engine on.run;
+      } in
+      stall_as layout programs wire manner order c own fs lists round telling told is_config is_own is_frames under.verdicts (ruled under.verdicts under.asked) stall
+
+  pub explained_under : (after : List (XdpProgram F)) (telling : Telling) (round : ℕ) (engine : Engine) (failure : RunFailure) → HasStalledOnUnder g chain after wire manner c own fs order round (logged_seen engine)
+      → IsExplained telling round engine failure → FailsRunning layout programs wire manner order telling lists failure
+  explained_under after telling round engine (Stalls at) on is =
+      subst (λ (n : ℕ). IsStall (setting_of layout programs wire manner lists) (frames_of layout) order n telling []) (sym is.0) (stalled_under after telling round engine [] on is.1)
+  explained_under after telling round engine (Explained at text) on is =
+      let told = told_on telling engine.config engine.rings engine.log in (
+        told,
+        subst (λ (n : ℕ). IsStall (setting_of layout programs wire manner lists) (frames_of layout) order n telling told) (sym is.0) (stalled_under after telling round engine told on refl),
+        subst (λ (n : ℕ). IsStallText n told text.items) (sym is.0) is.1,
+      )
+  explained_under after telling round engine NoMemory on is = tt
+  explained_under after telling round engine (Bad port cause) on is = absurd is
+  explained_under after telling round engine (Excessive excess) on is = absurd is
+  explained_under after telling round engine (Breaks line) on is = absurd is
+  explained_under after telling round engine (BadFile cause) on is = absurd is

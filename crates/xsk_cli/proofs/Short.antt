@@ -36,9 +36,9 @@ filed_short : (ports : ℕ) (inputs : List (List ℕ)) (lists : List (List (List
 filed_short ports inputs lists are port below = All-from_recursion IsShort (get_or lists port []) (each_of_all IsShort lists (read_fits ports (bytes_of inputs 0) lists are.is).1 port below)
 
 all_short : (work : Work) (inputs : List (List ℕ)) (lists : List (List (List ℕ))) → AreListsOf work inputs lists → AllShort lists
-all_short (Simulate layout programs wire manner order None journal Pcap) inputs lists are = captured_short inputs lists are
-all_short (Simulate layout programs wire manner order None journal Pcapng) inputs lists are = filed_short layout.ports inputs lists are
-all_short (Simulate layout programs wire manner order (Some number) journal format) inputs lists are = subst AllShort (sym are.1) (made_short number layout.ports)
+all_short (Simulate layout programs wire manner order None telling Pcap) inputs lists are = captured_short inputs lists are
+all_short (Simulate layout programs wire manner order None telling Pcapng) inputs lists are = filed_short layout.ports inputs lists are
+all_short (Simulate layout programs wire manner order (Some number) telling format) inputs lists are = subst AllShort (sym are.1) (made_short number layout.ports)
 all_short (Generate number) inputs lists are = subst AllShort (sym are.1) (made_short number 1)
 all_short (Audit layout) inputs lists are = absurd are
 

@@ -23,7 +23,9 @@ use Rattle.xsk_cli.specs.declared.format.Format.TheVariants.{Pcap, Pcapng}
 use Rattle.xsk_cli.specs.declared.failure.ReadFailure.{ReadFailure}
 use Rattle.xsk_cli.specs.declared.failure.ReadFailure.TheVariants.{Unopened as NoInput, Unread, TooLong, OutOfMemory as NoRoom}
 use Rattle.xsk_cli.specs.declared.failure.RunFailure.{RunFailure}
-use Rattle.xsk_cli.specs.declared.failure.RunFailure.TheVariants.{BadCapture as Bad, TooMuch as Excessive, Stalled as Stalls, OutOfMemory as NoMemory, NotLegal as Breaks, BadPcapng as BadFile}
+use Rattle.xsk_cli.specs.declared.failure.RunFailure.TheVariants.{BadCapture as Bad, TooMuch as Excessive, Stalled as Stalls, Explained, OutOfMemory as NoMemory, NotLegal as Breaks, BadPcapng as BadFile}
+use Rattle.xsk_cli.specs.Line.{line_of}
+use Rattle.xsk_cli.specs.declared.failure.Refusal.TheVariants.{Bare}
 use Rattle.xsk_cli.specs.declared.threads.Ended.{Ended}
 use Rattle.xsk_cli.specs.declared.words.Work.{Work}
 use Rattle.xsk_cli.specs.declared.words.Work.TheVariants.{Simulate, Generate, Audit}
@@ -32,24 +34,21 @@ use Rattle.xsk_cli.specs.declared.status.Status.TheVariants.{Done, Usage, BadCap
 use Rattle.xsk_cli.proofs.Answering.{answered, completes, same_inputs_by}
 use Rattle.xsk_cli.proofs.Making.{few_ports}
 use Rattle.xsk_cli.proofs.Filing.{count_texts, no_check, no_file_check}
-use Rattle.xsk_cli.proofs.Writing.{ends_as, none_come}
+use Rattle.xsk_cli.proofs.Writing.{ends_as, none_come, tells_as}
 use Rattle.xsk_cli.proofs.Unique.{bad_file_not_packets, bad_not_packets, long_not_short, none_some, same_packets}
 
 -- ---- before any run
 
 -- a command that ends before any run ends so by either
-shown_none : (plan : Plan) (old new : Moment) (status : Status) → Ends plan old new status → (IsAfterRun status → ⊥) → EndsShown None old new status plan
-shown_none plan old new status ends before = ends_as (ComesOf plan.work) (ComesShown plan.work None) plan old new status (λ inputs texts is. (before, is)) ends
-
 plain_of : (plan : Plan) (old new : Moment) (status : Status) → EndsShown None old new status plan → Ends plan old new status
 plain_of plan old new status ends = ends_as (ComesShown plan.work None) (ComesOf plan.work) plan old new status (λ inputs texts is. is.1) ends
 
-pub comes_before : (planned : Option Plan) (old new : Moment) (status : Status) → Comes planned old new status → (IsAfterRun status → ⊥) → ComesTo (EndsShown None old new status) planned old new status
+pub comes_before : (planned : Option Plan) (old new : Moment) (status : Status) → Comes planned old new (Err (Bare status)) → (IsAfterRun status → ⊥) → ComesTo (λ (work : Work). ComesShown work None) planned old new status (line_of status)
 comes_before planned old new status comes before = record {
   usage = comes.usage;
   unplanned = comes.unplanned;
   refused = comes.refused;
-  ends = shown_none (unwrap_or planned no_plan) old new status comes.ends before;
+  ends = tells_as (ComesOf (unwrap_or planned no_plan).work) (ComesShown (unwrap_or planned no_plan).work None) (unwrap_or planned no_plan) old new status (line_of status) (λ inputs texts is. (before, is)) comes.ends;
   silent = comes.silent;
   cause = comes.cause;
   falls = comes.falls;
@@ -68,10 +67,10 @@ read_before (TooLong port) wrong = wrong
 read_before NoRoom wrong = wrong
 
 -- an answer with such a status alone
-pub comes_shown : (answer : Result Ended Status) (status : Status) (planned : Option Plan) (old new : Moment) → answer ≡ Err status → Comes planned old new status → (IsAfterRun status → ⊥)
-    → ComesTo (EndsShown (ended_in answer).outcome old new (ended_in answer).status) planned old new (ended_in answer).status
+pub comes_shown : (answer : Result Ended Status) (status : Status) (planned : Option Plan) (old new : Moment) → answer ≡ Err status → Comes planned old new (Err (Bare status)) → (IsAfterRun status → ⊥)
+    → ComesTo (λ (work : Work). ComesShown work (ended_in answer).outcome) planned old new (ended_in answer).status (line_of (ended_in answer).status)
 comes_shown answer status planned old new is comes before =
-    subst (λ r. ComesTo (EndsShown (ended_in r).outcome old new (ended_in r).status) planned old new (ended_in r).status) (sym is) (comes_before planned old new status comes before)
+    subst (λ r. ComesTo (λ (work : Work). ComesShown work (ended_in r).outcome) planned old new (ended_in r).status (line_of (ended_in r).status)) (sym is) (comes_before planned old new status comes before)
 
 -- ---- what is answered
 
@@ -80,7 +79,7 @@ refused_outcome work inputs (long port) h = h
 refused_outcome work inputs (bad port cause) h = h
 refused_outcome work inputs (bad_file cause) h = h
 refused_outcome work inputs (passed excess) h = h
-refused_outcome work inputs (stalled round) h = absurd h
+refused_outcome work inputs (stalled round told) h = absurd h
 refused_outcome work inputs (made texts) h = absurd h
 refused_outcome work inputs (illegal line) h = absurd h
 
@@ -90,7 +89,7 @@ shown_not_refused work inputs o (long port) is h = long_not_short (most_of work)
 shown_not_refused work inputs o (bad port cause) is h = bad_not_packets work inputs port cause is.lists h.1 is.are
 shown_not_refused work inputs o (bad_file cause) is h = bad_file_not_packets work inputs cause is.lists h.1 is.are
 shown_not_refused work inputs o (passed excess) is h = none_some (excess_of h.1.0) excess h.1.2 (ap excess_of (same_packets work inputs h.1.0 is.lists h.1.1 is.are) ∙ is.within)
-shown_not_refused work inputs o (stalled round) is h = h
+shown_not_refused work inputs o (stalled round told) is h = h
 shown_not_refused work inputs o (made texts) is h = h
 shown_not_refused work inputs o (illegal line) is h = h
 
@@ -181,14 +180,14 @@ written_comes work inputs o texts is old (BadPcapng cause) has = absurd has
 
 -- there is a text for each port
 pub shown_count : (work : Work) (lists : List (List (List ℕ))) (o : OutcomeShown) (texts : Written) → AreTextsFrom work lists o texts → length texts.outputs ≡ written_by work
-shown_count (Simulate layout programs wire manner order number journal format) lists o texts are = ap length are.sent ∙ count_texts format (sent_from layout programs lists o.history) layout.ports
+shown_count (Simulate layout programs wire manner order number telling format) lists o texts are = ap length are.sent ∙ count_texts format (sent_from layout programs lists o.history) layout.ports
 shown_count (Generate number) lists o texts are = absurd are
 shown_count (Audit layout) lists o texts are = absurd are
 
 -- for few ports
 pub few_written : (work : Work) → fault_in work ≡ None → written_by work ≤ 4
-few_written (Simulate layout programs wire manner order number journal Pcap) accepted = few_ports layout accepted
-few_written (Simulate layout programs wire manner order number journal Pcapng) accepted = omega arith
+few_written (Simulate layout programs wire manner order number telling Pcap) accepted = few_ports layout accepted
+few_written (Simulate layout programs wire manner order number telling Pcapng) accepted = omega arith
 few_written (Generate number) accepted = omega arith
 few_written (Audit layout) accepted = omega arith
 
@@ -201,6 +200,7 @@ none_come_shown work inputs (Excessive (LongInput port)) h before = none_come wo
 none_come_shown work inputs (Excessive (Packets n)) h before = λ old. ((λ no. no), h)
 none_come_shown work inputs (Excessive (Bytes n)) h before = λ old. ((λ no. no), h)
 none_come_shown work inputs (Stalls round) h before = absurd before
+none_come_shown work inputs (Explained round text) h before = absurd before
 none_come_shown work inputs NoMemory h before = λ old. ((λ no. no), tt)
 none_come_shown work inputs (Breaks line) h before = λ old. ((λ no. no), h)
 none_come_shown work inputs (BadFile cause) h before = λ old. ((λ no. no), h)

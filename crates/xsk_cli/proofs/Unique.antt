@@ -1,5 +1,5 @@
 -- The bytes of the inputs have one outcome.
-use Rattle.std.proofs.Common.{◌≡◌, ℕ, ◌<◌, ◌⊎◌, List, [], length, get_or, refl, sym, ap, ◌∙◌, subst, inl, inr, ⊎_elim, arith, Some, None, Option, Bool}
+use Rattle.std.proofs.Common.{◌≡◌, ℕ, ◌+◌, ◌<◌, ◌⊎◌, List, [], length, get_or, refl, sym, ap, ◌∙◌, subst, inl, inr, ⊎_elim, arith, Some, None, Option, Bool}
 use Rattle.std.proofs.lemmas.Bool.{cases_order}
 use Rattle.std.proofs.lemmas.Option.{same_Some}
 use Rattle.xsk_turns.specs.declared.manner.Manner.{Manner}
@@ -7,15 +7,20 @@ use Rattle.xsk_pcap.specs.declared.reading.BadCapture.{BadCapture as Cause}
 use Rattle.xsk_pcapng.specs.declared.reading.BadPcapng.{BadPcapng as FileCause}
 use Rattle.xsk_pcapng.proofs.FileLaws.{one_reading as one_file_reading, one_refusal as one_file_refusal, refused_is_no_file}
 use Rattle.xsk_pcap.proofs.CaptureLaws.{one_reading, one_refusal, refused_is_no_capture}
-use Rattle.xsk_sim.proofs.Unique.{one_run, ends_or_stalls, one_stall as one_stalled_round}
+use Rattle.xsk_umem.specs.Frame.{Frame}
+use Rattle.xsk_sim.specs.Runs.{IsRoundHistory}
+use Rattle.xsk_turns.specs.Workers.{Setting}
+use Rattle.xsk_sim.proofs.Unique.{one_history, one_run, ends_or_stalls, one_stall as one_stalled_round}
 use Rattle.xsk_cli.specs.Judged.{bytes_of, AreShort, IsTooLong, AreCaptures, IsBadCapture, excess_of}
 use Rattle.xsk_cli.specs.Outcome.{Written, Outcome, long, bad, passed, stalled, made, illegal, AreListsOf, AreMadeOf, IsAudited, IsIllegalIn, IsOnPackets, legal_text, AreTextsBy, AreTextsOf, IsOutcomeOf, IsOutcomeIn, IsOutcome, IsStalledBy, OneOutcome, setting_of, frames_of, ports_of, told_of, sent_from, bad_file}
 use Rattle.xsk_cli.specs.Format.{AreFiles, HasBadCapture, HasBadFile, outputs_of}
+use Rattle.xsk_cli.specs.Stalls.{IsStall, told_of_stall}
 use Rattle.xsk_cli.specs.Words.{format_in, most_of, ports_in}
 use Rattle.xsk_cli.specs.declared.format.Format.{Format}
 use Rattle.xsk_cli.specs.declared.format.Format.TheVariants.{Pcap, Pcapng}
 use Rattle.xsk_args.specs.declared.program.Program.{Program}
 use Rattle.xsk_turns.specs.declared.wire.Wire.{Wire}
+use Rattle.xsk_cli.specs.declared.words.Telling.{Telling}
 use Rattle.xsk_cli.specs.declared.words.Work.{Work}
 use Rattle.xsk_cli.specs.declared.words.Work.TheVariants.{Simulate, Generate, Audit}
 use Rattle.xsk_socket.specs.declared.layout.Layout.{Layout}
@@ -92,8 +97,8 @@ bad_file_not_files Pcapng ports inputs c lists a b = refused_is_no_file ports (b
 -- ---- the packets
 
 pub same_packets : (work : Work) (inputs : List (List ℕ)) (some others : List (List (List ℕ))) → AreListsOf work inputs some → AreListsOf work inputs others → some ≡ others
-same_packets (Simulate layout programs wire manner order None journal format) inputs some others a b = same_files format layout.ports inputs some others a b
-same_packets (Simulate layout programs wire manner order (Some number) journal format) inputs some others a b = a.1 ∙ sym b.1
+same_packets (Simulate layout programs wire manner order None telling format) inputs some others a b = same_files format layout.ports inputs some others a b
+same_packets (Simulate layout programs wire manner order (Some number) telling format) inputs some others a b = a.1 ∙ sym b.1
 same_packets (Generate number) inputs some others a b = a.1 ∙ sym b.1
 same_packets (Audit layout) inputs some others a b = absurd a
 
@@ -107,14 +112,14 @@ none_bad_file Pcap ports inputs c none a = a
 none_bad_file Pcapng ports inputs c none a = omega (arith, a.known, ap length none)
 
 pub bad_not_packets : (work : Work) (inputs : List (List ℕ)) (p : ℕ) (c : Cause) (lists : List (List (List ℕ))) → HasBadCapture (format_in work) inputs p c → AreListsOf work inputs lists → ⊥
-bad_not_packets (Simulate layout programs wire manner order None journal format) inputs p c lists a b = bad_not_files format layout.ports inputs p c lists a b
-bad_not_packets (Simulate layout programs wire manner order (Some number) journal format) inputs p c lists a b = none_bad format inputs p c b.0 a
+bad_not_packets (Simulate layout programs wire manner order None telling format) inputs p c lists a b = bad_not_files format layout.ports inputs p c lists a b
+bad_not_packets (Simulate layout programs wire manner order (Some number) telling format) inputs p c lists a b = none_bad format inputs p c b.0 a
 bad_not_packets (Generate number) inputs p c lists a b = none_bad Pcap inputs p c b.0 a
 bad_not_packets (Audit layout) inputs p c lists a b = b
 
 pub bad_file_not_packets : (work : Work) (inputs : List (List ℕ)) (c : FileCause) (lists : List (List (List ℕ))) → HasBadFile (format_in work) (ports_in work) inputs c → AreListsOf work inputs lists → ⊥
-bad_file_not_packets (Simulate layout programs wire manner order None journal format) inputs c lists a b = bad_file_not_files format layout.ports inputs c lists a b
-bad_file_not_packets (Simulate layout programs wire manner order (Some number) journal format) inputs c lists a b = none_bad_file format layout.ports inputs c b.0 a
+bad_file_not_packets (Simulate layout programs wire manner order None telling format) inputs c lists a b = bad_file_not_files format layout.ports inputs c lists a b
+bad_file_not_packets (Simulate layout programs wire manner order (Some number) telling format) inputs c lists a b = none_bad_file format layout.ports inputs c b.0 a
 bad_file_not_packets (Generate number) inputs c lists a b = a
 bad_file_not_packets (Audit layout) inputs c lists a b = a
 
@@ -136,19 +141,29 @@ same_written a b outputs report =
     ∙ ap (λ report. made (record { outputs = b.outputs; report = report })) report
 
 one_made : (work : Work) (lists : List (List (List ℕ))) (a b : Written) → AreTextsBy work lists a → AreTextsBy work lists b → made a ≡ made b
-one_made (Simulate layout programs wire manner order number journal format) lists a b s t = same_written a b (same_outputs format layout programs wire manner order lists journal a b s t) (same_report format layout programs wire manner order lists journal a b s t)
+one_made (Simulate layout programs wire manner order number telling format) lists a b s t = same_written a b (same_outputs format layout programs wire manner order lists telling.journal a b s t) (same_report format layout programs wire manner order lists telling.journal a b s t)
 one_made (Generate number) lists a b s t = same_written a b (s.0 ∙ sym t.0) (s.1 ∙ sym t.1)
 one_made (Audit layout) lists a b s t = absurd s
 
-one_stall : (work : Work) (lists : List (List (List ℕ))) (r s : ℕ) → IsStalledBy work lists r → IsStalledBy work lists s → r ≡ s
-one_stall (Simulate layout programs wire manner order number journal format) lists r s x y = one_stalled_round (setting_of layout programs wire manner lists) (frames_of layout) order r s x y
-one_stall (Generate number) lists r s x y = absurd x
-one_stall (Audit layout) lists r s x y = absurd x
+-- one round, of which one thing is told
+same_stall : (s : Setting) (frames : List Frame) (order : ℕ) (telling : Telling) (r q : ℕ) (a b : List ℕ) → IsStall s frames order r telling a → IsStall s frames order q telling b → stalled r a ≡ stalled q b
+same_stall s frames order telling r q a b x y =
+    let rounds : r ≡ q = one_stalled_round s frames order r q x.stalled y.stalled in
+    let history : x.stalled.past.history ≡ y.stalled.past.history =
+    one_history s frames order (q + 1) x.stalled.past.history y.stalled.past.history
+    (subst (λ (n : ℕ). IsRoundHistory s frames order (n + 1) x.stalled.past.history) rounds x.stalled.past.is) y.stalled.past.is in
+    let told : a ≡ b = x.tells ∙ ap (told_of_stall telling s.config frames) history ∙ sym y.tells in
+    ap (λ n. stalled n a) rounds ∙ ap (λ t. stalled q t) told
 
-no_texts_and_stall : (work : Work) (lists : List (List (List ℕ))) (texts : Written) (r : ℕ) → AreTextsBy work lists texts → IsStalledBy work lists r → ⊥
-no_texts_and_stall (Simulate layout programs wire manner order number journal format) lists texts r t x = ends_or_stalls (setting_of layout programs wire manner lists) (frames_of layout) order r t.run t.ended x
-no_texts_and_stall (Generate number) lists texts r t x = x
-no_texts_and_stall (Audit layout) lists texts r t x = x
+one_stall : (work : Work) (lists : List (List (List ℕ))) (r q : ℕ) (a b : List ℕ) → IsStalledBy work lists r a → IsStalledBy work lists q b → stalled r a ≡ stalled q b
+one_stall (Simulate layout programs wire manner order number telling format) lists r q a b x y = same_stall (setting_of layout programs wire manner lists) (frames_of layout) order telling r q a b x y
+one_stall (Generate number) lists r q a b x y = absurd x
+one_stall (Audit layout) lists r q a b x y = absurd x
+
+no_texts_and_stall : (work : Work) (lists : List (List (List ℕ))) (texts : Written) (r : ℕ) (told : List ℕ) → AreTextsBy work lists texts → IsStalledBy work lists r told → ⊥
+no_texts_and_stall (Simulate layout programs wire manner order number telling format) lists texts r told t x = ends_or_stalls (setting_of layout programs wire manner lists) (frames_of layout) order r t.run t.ended x.stalled
+no_texts_and_stall (Generate number) lists texts r told t x = x
+no_texts_and_stall (Audit layout) lists texts r told t x = x
 
 pub none_some : {A : Type 0} (excess : Option Excess) (e : Excess) → excess ≡ Some e → excess ≡ None → A
 none_some excess e is none = let no = sym is ∙ none in absurd cc
@@ -162,21 +177,21 @@ module _ (work : Work) where
   one_of lists (passed e) (bad p c) x y = absurd y
   one_of lists (passed e) (bad_file c) x y = absurd y
   one_of lists (passed e) (passed f) x y = ap passed (same_Some e f (sym x ∙ y))
-  one_of lists (passed e) (stalled r) x y = none_some (excess_of lists) e x y.0
+  one_of lists (passed e) (stalled r told) x y = none_some (excess_of lists) e x y.0
   one_of lists (passed e) (made t) x y = none_some (excess_of lists) e x y.0
   one_of lists (passed e) (illegal l) x y = absurd y
-  one_of lists (stalled r) (long p) x y = absurd y
-  one_of lists (stalled r) (bad p c) x y = absurd y
-  one_of lists (stalled r) (bad_file c) x y = absurd y
-  one_of lists (stalled r) (passed e) x y = none_some (excess_of lists) e y x.0
-  one_of lists (stalled r) (stalled s) x y = ap stalled (one_stall work lists r s x.1 y.1)
-  one_of lists (stalled r) (made t) x y = absurd (no_texts_and_stall work lists t r y.1 x.1)
-  one_of lists (stalled r) (illegal l) x y = absurd y
+  one_of lists (stalled r told) (long p) x y = absurd y
+  one_of lists (stalled r told) (bad p c) x y = absurd y
+  one_of lists (stalled r told) (bad_file c) x y = absurd y
+  one_of lists (stalled r told) (passed e) x y = none_some (excess_of lists) e y x.0
+  one_of lists (stalled r told) (stalled q other) x y = one_stall work lists r q told other x.1 y.1
+  one_of lists (stalled r told) (made t) x y = absurd (no_texts_and_stall work lists t r told y.1 x.1)
+  one_of lists (stalled r told) (illegal l) x y = absurd y
   one_of lists (made t) (long p) x y = absurd y
   one_of lists (made t) (bad p c) x y = absurd y
   one_of lists (made t) (bad_file c) x y = absurd y
   one_of lists (made t) (passed e) x y = none_some (excess_of lists) e y x.0
-  one_of lists (made t) (stalled r) x y = absurd (no_texts_and_stall work lists t r x.1 y.1)
+  one_of lists (made t) (stalled r told) x y = absurd (no_texts_and_stall work lists t r told x.1 y.1)
   one_of lists (made t) (made u) x y = one_made work lists t u x.1 y.1
   one_of lists (made t) (illegal l) x y = absurd y
   one_of lists (illegal l) b x y = absurd x
@@ -201,12 +216,12 @@ one_audited layout text (long p) b x y = absurd x
 one_audited layout text (bad p c) b x y = absurd x
 one_audited layout text (bad_file c) b x y = absurd x
 one_audited layout text (passed e) b x y = absurd x
-one_audited layout text (stalled r) b x y = absurd x
+one_audited layout text (stalled r told) b x y = absurd x
 one_audited layout text (made t) (long p) x y = absurd y
 one_audited layout text (made t) (bad p c) x y = absurd y
 one_audited layout text (made t) (bad_file c) x y = absurd y
 one_audited layout text (made t) (passed e) x y = absurd y
-one_audited layout text (made t) (stalled r) x y = absurd y
+one_audited layout text (made t) (stalled r told) x y = absurd y
 one_audited layout text (made t) (made u) x y =
     let counts : x.0 ≡ y.0 = same_entries x.0 y.0 (one-verdict (regular_of layout) text (Legal x.0) (Legal y.0) x.1 y.1) in
     ap made (x.2 ∙ ap (λ n. record { outputs = []; report = legal_text n }) counts ∙ sym y.2)
@@ -215,7 +230,7 @@ one_audited layout text (illegal l) (long p) x y = absurd y
 one_audited layout text (illegal l) (bad p c) x y = absurd y
 one_audited layout text (illegal l) (bad_file c) x y = absurd y
 one_audited layout text (illegal l) (passed e) x y = absurd y
-one_audited layout text (illegal l) (stalled r) x y = absurd y
+one_audited layout text (illegal l) (stalled r told) x y = absurd y
 one_audited layout text (illegal l) (made t) x y = absurd (not_both y.0 l (one-verdict (regular_of layout) text (Legal y.0) (NotLegal l) y.1 x))
 one_audited layout text (illegal l) (illegal m) x y = ap illegal (same_line l m (one-verdict (regular_of layout) text (NotLegal l) (NotLegal m) x y))
 
@@ -227,12 +242,12 @@ data Later (work : Work) (inputs : List (List ℕ)) (outcome : Outcome) : Type 0
   is_found : (layout : Layout) → work ≡ Audit layout → IsAudited layout (bytes_of inputs 0) outcome → Later work inputs outcome
 
 made_later : (work : Work) (inputs : List (List ℕ)) (t : Written) → AreMadeOf work inputs t → Later work inputs (made t)
-made_later (Simulate layout programs wire manner order number journal format) inputs t h = is_in h
+made_later (Simulate layout programs wire manner order number telling format) inputs t h = is_in h
 made_later (Generate number) inputs t h = is_in h
 made_later (Audit layout) inputs t h = is_found layout refl h
 
 illegal_later : (work : Work) (inputs : List (List ℕ)) (line : ℕ) → IsIllegalIn work inputs line → Later work inputs (illegal line)
-illegal_later (Simulate layout programs wire manner order number journal format) inputs line h = absurd h
+illegal_later (Simulate layout programs wire manner order number telling format) inputs line h = absurd h
 illegal_later (Generate number) inputs line h = absurd h
 illegal_later (Audit layout) inputs line h = is_found layout refl h
 
@@ -242,7 +257,7 @@ later work inputs (long p) h = inl (p, refl, h)
 later work inputs (bad p c) h = inr (h.0, is_bad p c refl h.1 h.2)
 later work inputs (bad_file c) h = inr (h.0, is_bad_file c refl h.1)
 later work inputs (passed e) h = inr (h.0, is_in h.1)
-later work inputs (stalled r) h = inr (h.0, is_in h.1)
+later work inputs (stalled r told) h = inr (h.0, is_in h.1)
 later work inputs (made t) h = inr (h.0, made_later work inputs t h.1)
 later work inputs (illegal l) h = inr (h.0, illegal_later work inputs l h.1)
 

@@ -1,23 +1,24 @@
 -- How a command ends once its inputs were read.
-use Rattle.std.proofs.Common.{◌≡◌, ℕ, ◌+◌, Bool, cond, ltb, true, false, Option, Some, None, List, [], length, get_or, refl, sym, ap, ◌∙◌, subst, arith}
+use Rattle.std.proofs.Common.{◌≡◌, ℕ, ◌+◌, Bool, cond, ltb, true, false, Option, Some, None, List, [], ◌++◌, length, get_or, refl, sym, ap, ◌∙◌, subst, arith, append-nil}
 use Rattle.std.specs.Prelude.{◌≢◌}
 use Rattle.std.specs.Io.KnownBytes.{IsAtEnd}
 use Rattle.xsk_io.specs.Bay.{Adds, AddsNoneBut, Grows, GrowsByPart, IsOffered, Same, SameBut, Moment}
 use Rattle.xsk_io.specs.declared.bay.Stream.{Stream}
 use Rattle.xsk_io.specs.declared.bay.Stream.TheVariants.{Input, Output, Report}
 use Rattle.xsk_io.proofs.Steps.{Adds-then, IsOffered-later}
-use Rattle.xsk_cli.specs.Ends.{ComesOf, EndsBy, Ends}
+use Rattle.xsk_cli.specs.Ends.{ComesOf, EndsBy, TellsBy, behind}
+use Rattle.xsk_cli.specs.Line.{line_of}
 use Rattle.xsk_cli.specs.Judged.{AreShort, packets_in, bytes_in, excess_of}
 use Rattle.xsk_cli.specs.declared.status.Excess.{Excess}
 use Rattle.xsk_cli.specs.Outcome.{Written, made, IsOutcome, AreTextsBy, capture_of, sent_from}
-use Rattle.xsk_cli.specs.Streams.{IsTold, IsFront, at_output, at_input, Reaches, AreRead, AreWritten, HasLine, IsReported, IsSilent, name_of}
-use Rattle.xsk_cli.specs.Steps.{AreFor, FailsWriting, HasTexts, HaveRead, MakesNo, MakesNone, no_texts, read_by, run_status, write_status, written_by}
+use Rattle.xsk_cli.specs.Streams.{IsTold, IsFront, at_output, at_input, Reaches, AreRead, AreWritten, HasLine, IsReported, IsSilent, name_of, refusal_status, refusal_text}
+use Rattle.xsk_cli.specs.Steps.{AreFor, FailsWriting, HasTexts, HaveRead, MakesNo, MakesNone, no_texts, read_by, run_refusal, told_alone, write_status, written_by}
 use Rattle.xsk_cli.specs.declared.words.Work.{Work}
 use Rattle.xsk_cli.specs.declared.words.Work.TheVariants.{Simulate, Generate, Audit}
 use Rattle.std.proofs.lemmas.List.{length-map}
 use Rattle.xsk_cli.specs.Words.{Plan, most_of, ports_in}
 use Rattle.xsk_cli.specs.declared.failure.RunFailure.{RunFailure}
-use Rattle.xsk_cli.specs.declared.failure.RunFailure.TheVariants.{BadCapture as Bad, TooMuch as Excessive, Stalled as Stalls, OutOfMemory as NoMemory, NotLegal as Breaks, BadPcapng as BadFile}
+use Rattle.xsk_cli.specs.declared.failure.RunFailure.TheVariants.{BadCapture as Bad, TooMuch as Excessive, Stalled as Stalls, Explained, OutOfMemory as NoMemory, NotLegal as Breaks, BadPcapng as BadFile}
 use Rattle.xsk_cli.specs.declared.failure.WriteFailure.{WriteFailure}
 use Rattle.xsk_cli.specs.declared.failure.WriteFailure.TheVariants.{Unopened, Unwritten}
 use Rattle.xsk_cli.specs.declared.status.Excess.TheVariants.{Input as LongInput, Packets, Bytes}
@@ -86,35 +87,48 @@ no_long : (lists : List (List (List ℕ))) (port : ℕ) → excess_of lists ≡ 
 no_long lists port h = no_long_in (ltb 65536 (packets_in lists)) (ltb 33554432 (bytes_in lists)) (packets_in lists) (bytes_in lists) port h
 
 module _ (plan : Plan) (bytes : List (List ℕ)) (old mid new : Moment) (have : HaveRead (most_of plan.work) plan.inputs bytes (length plan.inputs) old mid) where
-  -- no texts were made, whatever it comes of
-  pub refused_by : (Comes : List (List ℕ) → Written → Moment → Status → Type 0) (status : Status) → Reaches (length plan.inputs) (length plan.outputs) status (at_input (length plan.inputs) (length plan.inputs)) → IsReported [] status old mid
-      → ((stream : Stream) → status ≡ OpenFault stream → ⊥) → Comes bytes no_texts old status → EndsBy Comes plan old mid status
-  refused_by Comes status reaches reported other comes = record {
-    inputs = bytes;
-    texts = no_texts;
-    reach = at_input (length plan.inputs) (length plan.inputs);
-    reaches = reaches;
-    count = have.count_is;
-    short = have.short;
-    reads = have.reads;
-    writes = none_written plan.outputs [] old mid have.outputs have.held have.offers;
-    reported = reported;
-    asked = λ stream e. absurd (other stream e);
-    comes = comes;
-  }
+  -- no texts were made, whatever it comes of, and this is told behind its line
+  refused_with : (told : List ℕ) (Comes : List (List ℕ) → Written → Moment → Status → Type 0) (status : Status) → Reaches (length plan.inputs) (length plan.outputs) status (at_input (length plan.inputs) (length plan.inputs)) → IsReported told status old mid
+      → ((stream : Stream) → status ≡ OpenFault stream → ⊥) → Comes bytes (told_alone told) old status → line_of status ++ told ≡ line_of status ++ behind status (told_alone told) → TellsBy Comes plan old mid status (line_of status ++ told)
+  refused_with told Comes status reaches reported other comes same = (
+    record {
+      inputs = bytes;
+      texts = told_alone told;
+      reach = at_input (length plan.inputs) (length plan.inputs);
+      reaches = reaches;
+      count = have.count_is;
+      short = have.short;
+      reads = have.reads;
+      writes = none_written plan.outputs [] old mid have.outputs have.held have.offers;
+      reported = reported;
+      asked = λ stream e. absurd (other stream e);
+      comes = comes;
+    },
+    same,
+  )
 
-  pub ran_out_by : (Comes : List (List ℕ) → Written → Moment → Status → Type 0) → Comes bytes no_texts old OutOfMemory → EndsBy Comes plan old mid OutOfMemory
-  ran_out_by Comes comes = refused_by Comes OutOfMemory (record { known = omega arith; ends = omega arith; last = omega arith; outputs = refl; wholes = refl }) tt (λ stream e. cc) comes
+  -- and nothing is
+  refused_by : (Comes : List (List ℕ) → Written → Moment → Status → Type 0) (status : Status) → Reaches (length plan.inputs) (length plan.outputs) status (at_input (length plan.inputs) (length plan.inputs)) → IsReported [] status old mid
+      → ((stream : Stream) → status ≡ OpenFault stream → ⊥) → Comes bytes no_texts old status → behind status no_texts ≡ [] → TellsBy Comes plan old mid status (line_of status)
+  refused_by Comes status reaches reported other comes none =
+      subst (TellsBy Comes plan old mid status) (append-nil (line_of status))
+      (refused_with [] Comes status reaches reported other comes (ap (λ told. line_of status ++ told) (sym none)))
 
-  pub unmade_by : (Comes : List (List ℕ) → Written → Moment → Status → Type 0) (failure : RunFailure) → MakesNo (Comes bytes) failure → EndsBy Comes plan old mid (run_status failure)
-  unmade_by Comes (Bad port cause) h = refused_by Comes (BadCapture port cause) refl tt (λ stream e. cc) (h old)
+  pub ran_out_by : (Comes : List (List ℕ) → Written → Moment → Status → Type 0) → Comes bytes no_texts old OutOfMemory → TellsBy Comes plan old mid OutOfMemory (line_of OutOfMemory)
+  ran_out_by Comes comes = refused_by Comes OutOfMemory (record { known = omega arith; ends = omega arith; last = omega arith; outputs = refl; wholes = refl }) tt (λ stream e. cc) comes refl
+
+  pub unmade_by : (Comes : List (List ℕ) → Written → Moment → Status → Type 0) (failure : RunFailure) → MakesNo (Comes bytes) failure
+      → TellsBy Comes plan old mid (refusal_status (run_refusal failure)) (refusal_text (run_refusal failure))
+  unmade_by Comes (Bad port cause) h = refused_by Comes (BadCapture port cause) refl tt (λ stream e. cc) (h old) refl
   unmade_by Comes (Excessive (LongInput port)) h = absurd h
-  unmade_by Comes (Excessive (Packets n)) h = refused_by Comes (TooMuch (Packets n)) refl tt (λ stream e. cc) (h old)
-  unmade_by Comes (Excessive (Bytes n)) h = refused_by Comes (TooMuch (Bytes n)) refl tt (λ stream e. cc) (h old)
-  unmade_by Comes (Stalls round) h = refused_by Comes (Stalled round) refl tt (λ stream e. cc) (h old)
-  unmade_by Comes (Breaks line) h = refused_by Comes (NotLegal line) refl tt (λ stream e. cc) (h old)
+  unmade_by Comes (Excessive (Packets n)) h = refused_by Comes (TooMuch (Packets n)) refl tt (λ stream e. cc) (h old) refl
+  unmade_by Comes (Excessive (Bytes n)) h = refused_by Comes (TooMuch (Bytes n)) refl tt (λ stream e. cc) (h old) refl
+  unmade_by Comes (Stalls round) h = refused_by Comes (Stalled round) refl tt (λ stream e. cc) (h old) refl
+  unmade_by Comes (Explained round text) h =
+      subst (TellsBy Comes plan old mid (Stalled round)) (sym h.1) (refused_with h.0 Comes (Stalled round) refl tt (λ stream e. cc) (h.2 old) refl)
+  unmade_by Comes (Breaks line) h = refused_by Comes (NotLegal line) refl tt (λ stream e. cc) (h old) refl
   unmade_by Comes NoMemory h = ran_out_by Comes (h old)
-  unmade_by Comes (BadFile cause) h = refused_by Comes (BadPcapng cause) refl tt (λ stream e. cc) (h old)
+  unmade_by Comes (BadFile cause) h = refused_by Comes (BadPcapng cause) refl tt (λ stream e. cc) (h old) refl
 
   -- whatever it comes of
   module _ (Comes : List (List ℕ) → Written → Moment → Status → Type 0) (texts : Written) (same : SameInputs mid new) where
@@ -180,6 +194,7 @@ none_come work inputs (Excessive (LongInput port)) h = no_long h.1.0 port h.1.2
 none_come work inputs (Excessive (Packets n)) h = λ old. h
 none_come work inputs (Excessive (Bytes n)) h = λ old. h
 none_come work inputs (Stalls round) h = λ old. h
+none_come work inputs (Explained round text) h = (h.0, h.2, λ old. h.1)
 none_come work inputs NoMemory h = λ old. tt
 none_come work inputs (Breaks line) h = λ old. h
 none_come work inputs (BadFile cause) h = λ old. h
@@ -228,9 +243,11 @@ told_by Comes plan old mid new status ends opened asked left held offers silent 
   comes = ends.comes;
 }
 
-pub told_ends : (plan : Plan) (old mid new : Moment) (status : Status) → Ends plan old mid status → Same mid.is_open new.is_open → Same mid.asked new.asked → Same mid.left new.left → SameBut Report mid.held new.held
-    → AddsNoneBut Report mid.offers new.offers → ((HasLine status → ⊥) → IsSilent mid new) → Ends plan old new status
-told_ends plan old mid new status ends opened asked left held offers silent = told_by (ComesOf plan.work) plan old mid new status ends opened asked left held offers silent
+-- with the same text
+pub told_with : (Comes : List (List ℕ) → Written → Moment → Status → Type 0) (plan : Plan) (old mid new : Moment) (status : Status) (text : List ℕ) → TellsBy Comes plan old mid status text → Same mid.is_open new.is_open → Same mid.asked new.asked
+    → Same mid.left new.left → SameBut Report mid.held new.held → AddsNoneBut Report mid.offers new.offers → ((HasLine status → ⊥) → IsSilent mid new) → TellsBy Comes plan old new status text
+unfolding told_by
+told_with Comes plan old mid new status text tells opened asked left held offers silent = (told_by Comes plan old mid new status tells.0 opened asked left held offers silent, tells.1)
 
 -- what ends so ends as what it comes to as well
 pub ends_as : (Comes Others : List (List ℕ) → Written → Moment → Status → Type 0) (plan : Plan) (old new : Moment) (status : Status) → ((inputs : List (List ℕ)) (texts : Written) → Comes inputs texts old status → Others inputs texts old status)
@@ -249,8 +266,13 @@ ends_as Comes Others plan old new status says ends = record {
   comes = says ends.inputs ends.texts ends.comes;
 }
 
+pub tells_as : (Comes Others : List (List ℕ) → Written → Moment → Status → Type 0) (plan : Plan) (old new : Moment) (status : Status) (text : List ℕ) → ((inputs : List (List ℕ)) (texts : Written) → Comes inputs texts old status → Others inputs texts old status)
+    → TellsBy Comes plan old new status text → TellsBy Others plan old new status text
+unfolding ends_as
+tells_as Comes Others plan old new status text says tells = (ends_as Comes Others plan old new status says tells.0, tells.1)
+
 -- there is a text for each port
 pub texts_count : (work : Work) (lists : List (List (List ℕ))) (texts : Written) → AreTextsBy work lists texts → length lists ≡ ports_in work → length texts.outputs ≡ written_by work
-texts_count (Simulate layout programs wire manner order number journal format) lists texts are count = ap length are.are.sent ∙ count_texts format (sent_from layout programs lists are.ended.history) layout.ports
+texts_count (Simulate layout programs wire manner order number telling format) lists texts are count = ap length are.are.sent ∙ count_texts format (sent_from layout programs lists are.ended.history) layout.ports
 texts_count (Generate number) lists texts are count = ap length are.0 ∙ length-map lists capture_of ∙ count
 texts_count (Audit layout) lists texts are count = absurd are

@@ -22,7 +22,7 @@ pub record IsAmple (layout : Layout) : Type 0 where
 
 -- with such a layout that closes no socket and applications that change nothing, or without a run
 abbrev pub HasAmple : Work → Type 0
-HasAmple (Simulate layout programs wire manner order number journal format) = (manner ≡ plain) × (layout.close ≡ None) × IsAmple layout
+HasAmple (Simulate layout programs wire manner order number telling format) = (manner ≡ plain) × (layout.close ≡ None) × IsAmple layout
 HasAmple (Generate number) = Unit {0}
 HasAmple (Audit layout) = Unit {0}
 

@@ -1,5 +1,5 @@
 -- How a command ends: what it did to its streams, and why. What it makes of its inputs is a function of their bytes.
-use Rattle.std.specs.Prelude.{◌≡◌, ℕ, ◌<◌, length, List, [], Some, None, IfSome}
+use Rattle.std.specs.Prelude.{◌≡◌, ℕ, ◌<◌, ◌++◌, length, List, [], Some, None, IfSome, Result}
 use Rattle.xsk_io.specs.Bay.{Rose, Moment}
 use Rattle.xsk_io.specs.declared.bay.Kind.{Kind}
 use Rattle.xsk_io.specs.declared.bay.Stream.{Stream}
@@ -9,20 +9,22 @@ use Rattle.xsk_cli.specs.declared.words.Work.{Work}
 use Rattle.xsk_cli.specs.declared.words.Work.TheVariants.{Simulate, Audit}
 use Rattle.xsk_cli.specs.Judged.{bytes_of, AreShort, excess_of}
 use Rattle.xsk_cli.specs.Outcome.{Written, Outcome, long, bad, passed, stalled, made, illegal, IsOutcome, bad_file}
-use Rattle.xsk_cli.specs.Streams.{IsTold, Reach, Reaches, AreRead, AreWritten, IsReported, name_of}
+use Rattle.xsk_cli.specs.Line.{line_of}
+use Rattle.xsk_cli.specs.Streams.{IsTold, Reach, Reaches, AreRead, AreWritten, IsReported, name_of, status_in, text_in}
+use Rattle.xsk_cli.specs.declared.failure.Refusal.{Refusal}
 use Rattle.xsk_cli.specs.declared.status.Excess.TheVariants.{Input as TooLong}
 use Rattle.xsk_cli.specs.declared.status.Status.{Status}
 use Rattle.xsk_cli.specs.declared.status.Status.TheVariants.{Done, Usage, BadCapture, WriteFault, OpenFault, Refused, Stalled, TooMuch, OutOfMemory, NotLegal, BadPcapng}
 use Rattle.xsk_cli.specs.Format.{AreFiles, most_input}
 
--- the status comes of this work and these inputs: its layout is refused, they were too long or refused, their run stalled, their
--- journal isn't legal, or these are its texts
+-- the status comes of this work and these inputs: its layout is refused, they were too long or refused, their run stalled, of which
+-- the report's text is told, their journal isn't legal, or these are its texts
 abbrev pub ComesOf : Work → List (List ℕ) → Written → Moment → Status → Type 0
 ComesOf work inputs texts old Done = IsOutcome work inputs (made texts)
 ComesOf work inputs texts old (BadCapture port cause) = IsOutcome work inputs (bad port cause)
 ComesOf work inputs texts old (WriteFault stream) = IsOutcome work inputs (made texts)
 ComesOf work inputs texts old (OpenFault (Output port)) = IsOutcome work inputs (made texts)
-ComesOf work inputs texts old (Stalled round) = IsOutcome work inputs (stalled round)
+ComesOf work inputs texts old (Stalled round) = IsOutcome work inputs (stalled round texts.report)
 ComesOf work inputs texts old (TooMuch (TooLong port)) = IfSome (old.left (Input port)) (λ bytes. most_of work < length bytes)
 ComesOf work inputs texts old (TooMuch excess) = IsOutcome work inputs (passed excess)
 ComesOf work inputs texts old (Refused unlawful) = fault_in work ≡ Some unlawful
@@ -45,9 +47,21 @@ pub record EndsBy (Comes : List (List ℕ) → Written → Moment → Status →
   pub asked : (stream : Stream) → status ≡ OpenFault stream → IsTold (new.asked stream) (name_of plan stream)
   pub comes : Comes inputs texts old status
 
+-- what is told behind the line of a status: of a stall
+abbrev pub behind : Status → Written → List ℕ
+behind (Stalled round) texts = texts.report
+behind status texts = []
+
+-- it ends so, and this is its line with all that is told behind it
+abbrev pub TellsBy : (List (List ℕ) → Written → Moment → Status → Type 0) → Plan → Moment → Moment → Status → List ℕ → Type 0
+TellsBy Comes plan old new status text = (ends : EndsBy Comes plan old new status) × (text ≡ line_of status ++ behind status ends.texts)
+
 -- with what its work makes of them
 abbrev pub Ends : Plan → Moment → Moment → Status → Type 0
 Ends plan old new status = EndsBy (ComesOf plan.work) plan old new status
+
+abbrev pub Tells : Plan → Moment → Moment → Result Unit Refusal → Type 0
+Tells plan old new result = TellsBy (ComesOf plan.work) plan old new (status_in result) (text_in result)
 
 -- ---- inputs whose bytes the bay tells
 
@@ -62,7 +76,7 @@ Answers work outcome Usage = ⊥
 Answers work outcome (BadCapture port cause) = outcome ≡ bad port cause
 Answers work outcome (WriteFault stream) = (texts : Written) × (outcome ≡ made texts)
 Answers work outcome (OpenFault (Output port)) = (texts : Written) × (outcome ≡ made texts)
-Answers work outcome (Stalled round) = outcome ≡ stalled round
+Answers work outcome (Stalled round) = (told : List ℕ) × (outcome ≡ stalled round told)
 Answers work outcome (TooMuch (TooLong port)) = outcome ≡ long port
 Answers work outcome (TooMuch excess) = outcome ≡ passed excess
 Answers work outcome (Refused unlawful) = fault_in work ≡ Some unlawful
@@ -74,7 +88,7 @@ Answers work outcome status = Unit {0}
 
 -- files within the limits, where files are read, and so a journal, where one is
 abbrev pub AreTaken : Work → List (List ℕ) → Type 0
-AreTaken (Simulate layout programs wire manner order None journal format) inputs = AreShort (most_input format) inputs (length inputs) × ((lists : List (List (List ℕ))) × AreFiles format layout.ports inputs lists × (excess_of lists ≡ None))
+AreTaken (Simulate layout programs wire manner order None telling format) inputs = AreShort (most_input format) inputs (length inputs) × ((lists : List (List (List ℕ))) × AreFiles format layout.ports inputs lists × (excess_of lists ≡ None))
 AreTaken (Audit layout) inputs = AreShort (most_of (Audit layout)) inputs (length inputs)
 AreTaken work inputs = inputs ≡ []
 

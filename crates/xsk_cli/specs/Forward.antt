@@ -15,7 +15,7 @@ use Rattle.xsk_socket.specs.declared.layout.Unlawful.{Unlawful}
 use Rattle.xsk_turns.specs.declared.manner.Manner.{Manner}
 use Rattle.xsk_workers.specs.Forwarded.{OutcomeShown, HasForwarded}
 use Rattle.xsk_cli.specs.Cause.{IsCaused, IsFault}
-use Rattle.xsk_cli.specs.Ends.{Answers, AreTaken, AreTold, ComesOf, Ends, EndsBy, IsComplete, NoneRose}
+use Rattle.xsk_cli.specs.Ends.{Answers, AreTaken, AreTold, ComesOf, EndsBy, IsComplete, NoneRose, behind}
 use Rattle.xsk_cli.specs.Judged.{AreShort, excess_of}
 use Rattle.xsk_cli.specs.Line.{line_of}
 use Rattle.xsk_cli.specs.Outcome.{AreListsOf, AreTextsIn, IsOutcome, Outcome, Written, bad, frames_of, long, made, passed, report_of, setting_of, stalled, illegal, bad_file}
@@ -47,19 +47,19 @@ unmangled manner = record { mangle = None; after = manner.after }
 
 -- work that is a run
 abbrev pub IsRun : Work → Type 0
-IsRun (Simulate layout programs wire manner order number journal format) = Unit {0}
+IsRun (Simulate layout programs wire manner order number telling format) = Unit {0}
 IsRun (Generate number) = ⊥
 IsRun (Audit layout) = ⊥
 
 -- a run on threads of the work's packets shows this
 abbrev pub HasShown : Work → List (List (List ℕ)) → OutcomeShown → Type 0
-HasShown (Simulate layout programs wire manner order number journal format) lists o = HasForwarded layout.hands (setting_of layout programs wire (unmangled manner) lists) (frames_of layout) o
+HasShown (Simulate layout programs wire manner order number telling format) lists o = HasForwarded layout.hands (setting_of layout programs wire (unmangled manner) lists) (frames_of layout) o
 HasShown (Generate number) lists o = ⊥
 HasShown (Audit layout) lists o = ⊥
 
 -- these are the texts of its history
 abbrev pub AreTextsFrom : Work → List (List (List ℕ)) → OutcomeShown → Written → Type 0
-AreTextsFrom (Simulate layout programs wire manner order number journal format) lists o texts = AreTextsIn format layout programs wire (unmangled manner) lists o.history (report_of layout programs wire (unmangled manner) lists o.history) texts
+AreTextsFrom (Simulate layout programs wire manner order number telling format) lists o texts = AreTextsIn format layout programs wire (unmangled manner) lists o.history (report_of layout programs wire (unmangled manner) lists o.history) texts
 AreTextsFrom (Generate number) lists o texts = ⊥
 AreTextsFrom (Audit layout) lists o texts = ⊥
 
@@ -107,7 +107,7 @@ IsRefusedAs work inputs (long port) = IsOutcome work inputs (long port)
 IsRefusedAs work inputs (bad port cause) = IsOutcome work inputs (bad port cause)
 IsRefusedAs work inputs (bad_file cause) = IsOutcome work inputs (bad_file cause)
 IsRefusedAs work inputs (passed excess) = IsOutcome work inputs (passed excess)
-IsRefusedAs work inputs (stalled round) = ⊥
+IsRefusedAs work inputs (stalled round told) = ⊥
 IsRefusedAs work inputs (made texts) = ⊥
 IsRefusedAs work inputs (illegal line) = ⊥
 
@@ -118,8 +118,9 @@ ended_in (Err status) = record { status = status; outcome = None }
 
 -- ---- the answer
 
--- What a command answers, where this is the plan that its words ask for, a plan ends so, and inputs come to an outcome so.
-pub record IsAnswer (Ending : Plan → Type 0) (ComesTo : Work → List (List ℕ) → Outcome → Type 0) (planned : Option Plan) (old new : Moment) (status : Status) : Type 0 where
+-- What a command answers, where this is the plan that its words ask for, its work comes to a status so, and inputs come to an outcome
+-- so.
+pub record IsAnswer (Coming : Work → List (List ℕ) → Written → Moment → Status → Type 0) (ComesTo : Work → List (List ℕ) → Outcome → Type 0) (planned : Option Plan) (old new : Moment) (status : Status) : Type 0 where
   pub usage : status ≡ Usage → planned ≡ None
   pub unplanned : planned ≡ None → (status ≡ Usage) ⊎ (status ≡ OutOfMemory)
   -- the layout is refused for its fault alone, and exactly where it has one
@@ -130,8 +131,8 @@ pub record IsAnswer (Ending : Plan → Type 0) (ComesTo : Work → List (List �
   pub others : (kind : Kind) (stream : Stream) → (IsFault status kind stream → ⊥) → (IsOfLine status kind stream → ⊥) → new.faults kind stream ≡ old.faults kind stream
   pub uncounted : IsAtOnce status → CountsOnly Write Report old.faults new.faults
   -- what the streams are, and why; where the words are no command it has no streams
-  pub ends : Ending (unwrap_or planned no_plan)
-  pub line : HasLine status → GotLine (line_of status) old new
+  pub ends : EndsBy (Coming (unwrap_or planned no_plan).work) (unwrap_or planned no_plan) old new status
+  pub line : HasLine status → GotLine (line_of status ++ behind status ends.texts) old new
   pub check : (port : ℕ) → status ≡ BadCapture port NoCause → ⊥
   pub check_file : status ≡ BadPcapng NoFileCause → ⊥
   -- inputs whose bytes the bay tells are answered with their outcome, of which there is one
@@ -142,8 +143,8 @@ pub record IsAnswer (Ending : Plan → Type 0) (ComesTo : Work → List (List �
 
 -- that of `run_plain`
 abbrev pub IsPlainAnswer : Option Plan → Moment → Moment → Status → Type 0
-IsPlainAnswer planned old new status = IsAnswer (λ plan. Ends plan old new status) IsOutcome planned old new status
+IsPlainAnswer planned old new status = IsAnswer ComesOf IsOutcome planned old new status
 
 -- that of `forward`, where this was shown
 abbrev pub IsShownAnswer : Option OutcomeShown → Option Plan → Moment → Moment → Status → Type 0
-IsShownAnswer shown planned old new status = IsAnswer (EndsShown shown old new status) IsRefusedAs planned old new status
+IsShownAnswer shown planned old new status = IsAnswer (λ work. ComesShown work shown) IsRefusedAs planned old new status

@@ -32,7 +32,7 @@ use Rattle.xsk_prog.specs.declared.rule.Verdict.{Verdict}
 use Rattle.xsk_turns.specs.Workers.{Setting, IsWholeRun, ruled_by, verdicts_to}
 use Rattle.xsk_turns.specs.declared.wire.Wire.{Wire}
 use Rattle.xsk_turns.specs.declared.wire.Wire.TheVariants.{Wait}
-use Rattle.xsk_sim.specs.Runs.{HasEnded, HasStalled}
+use Rattle.xsk_sim.specs.Runs.{HasEnded}
 use Rattle.xsk_pcap.specs.Written.{written}
 use Rattle.xsk_pcap.specs.declared.reading.BadCapture.{BadCapture as Cause}
 use Rattle.xsk_audit.specs.Telling.{IsVerdict}
@@ -40,6 +40,7 @@ use Rattle.xsk_audit.specs.declared.auditing.Verdicts.TheVariants.{Legal, NotLeg
 use Rattle.xsk_cli.specs.Judged.{bytes_of, AreShort, IsTooLong, excess_of}
 use Rattle.xsk_pcapng.specs.declared.reading.BadPcapng.{BadPcapng as FileCause}
 use Rattle.xsk_cli.specs.Format.{AreFiles, HasBadCapture, HasBadFile, outputs_of}
+use Rattle.xsk_cli.specs.Stalls.{IsStall}
 use Rattle.xsk_cli.specs.Words.{format_in, most_of, ports_in}
 use Rattle.xsk_cli.specs.declared.format.Format.{Format}
 use Rattle.xsk_cli.specs.declared.words.Work.{Work}
@@ -52,14 +53,14 @@ pub record Written : Type 0 where
   pub outputs : List (List ℕ)
   pub report : List ℕ
 
--- an input is too long, or no capture, or the one input is no pcapng file; the limits are passed; the run stalls in a round; or
--- there are texts; or a journal isn't legal from a line on
+-- an input is too long, or no capture, or the one input is no pcapng file; the limits are passed; the run stalls in a round, and
+-- so much is told of it behind the line of the stall; or there are texts; or a journal isn't legal from a line on
 pub data Outcome : Type 0 where
   long : ℕ → Outcome
   bad : ℕ → Cause → Outcome
   bad_file : FileCause → Outcome
   passed : Excess → Outcome
-  stalled : ℕ → Outcome
+  stalled : ℕ → List ℕ → Outcome
   made : Written → Outcome
   illegal : ℕ → Outcome
 
@@ -71,8 +72,8 @@ made_lists number ports = map (λ port. first 2000 (packet number port)) (range_
 
 -- the packets of all ports: those of the files, or those that are made, where nothing is read
 abbrev pub AreListsOf : Work → List (List ℕ) → List (List (List ℕ)) → Type 0
-AreListsOf (Simulate layout programs wire manner order None journal format) inputs lists = AreFiles format layout.ports inputs lists
-AreListsOf (Simulate layout programs wire manner order (Some number) journal format) inputs lists = (inputs ≡ []) × (lists ≡ made_lists number layout.ports)
+AreListsOf (Simulate layout programs wire manner order None telling format) inputs lists = AreFiles format layout.ports inputs lists
+AreListsOf (Simulate layout programs wire manner order (Some number) telling format) inputs lists = (inputs ≡ []) × (lists ≡ made_lists number layout.ports)
 AreListsOf (Generate number) inputs lists = (inputs ≡ []) × (lists ≡ made_lists number 1)
 AreListsOf (Audit layout) inputs lists = ⊥
 
@@ -208,16 +209,17 @@ pub record AreTextsOf (format : Format) (layout : Layout) (programs : List Progr
 
 -- the texts that the work makes of packets: of a run, or of the packets themselves
 abbrev pub AreTextsBy : Work → List (List (List ℕ)) → Written → Type 0
-AreTextsBy (Simulate layout programs wire manner order number journal format) lists texts = AreTextsOf format layout programs wire manner order lists journal texts
+AreTextsBy (Simulate layout programs wire manner order number telling format) lists texts = AreTextsOf format layout programs wire manner order lists telling.journal texts
 AreTextsBy (Generate number) lists texts =
     (texts.outputs ≡ map capture_of lists) × (texts.report ≡ report_on (slice_index_or lists 0 []))
 AreTextsBy (Audit layout) lists texts = ⊥
 
--- the work's run of packets stalls in a round
-abbrev pub IsStalledBy : Work → List (List (List ℕ)) → ℕ → Type 0
-IsStalledBy (Simulate layout programs wire manner order number journal format) lists round = HasStalled (setting_of layout programs wire manner lists) (frames_of layout) order round
-IsStalledBy (Generate number) lists round = ⊥
-IsStalledBy (Audit layout) lists round = ⊥
+-- the work's run of packets stalls in a round, and this is told of it
+abbrev pub IsStalledBy : Work → List (List (List ℕ)) → ℕ → List ℕ → Type 0
+IsStalledBy (Simulate layout programs wire manner order number telling format) lists round told =
+    IsStall (setting_of layout programs wire manner lists) (frames_of layout) order round telling told
+IsStalledBy (Generate number) lists round told = ⊥
+IsStalledBy (Audit layout) lists round told = ⊥
 
 -- ---- the outcome
 
@@ -227,7 +229,7 @@ IsOutcomeOf work lists (long port) = ⊥
 IsOutcomeOf work lists (bad port cause) = ⊥
 IsOutcomeOf work lists (bad_file cause) = ⊥
 IsOutcomeOf work lists (passed excess) = excess_of lists ≡ Some excess
-IsOutcomeOf work lists (stalled round) = (excess_of lists ≡ None) × IsStalledBy work lists round
+IsOutcomeOf work lists (stalled round told) = (excess_of lists ≡ None) × IsStalledBy work lists round told
 IsOutcomeOf work lists (made texts) = (excess_of lists ≡ None) × AreTextsBy work lists texts
 IsOutcomeOf work lists (illegal line) = ⊥
 
@@ -247,19 +249,19 @@ IsAudited layout text outcome = ⊥
 
 -- work on packets, which are read or made, and not on a journal
 abbrev pub IsOnPackets : Work → Type 0
-IsOnPackets (Simulate layout programs wire manner order number journal format) = Unit {0}
+IsOnPackets (Simulate layout programs wire manner order number telling format) = Unit {0}
 IsOnPackets (Generate number) = Unit {0}
 IsOnPackets (Audit layout) = ⊥
 
 -- the texts that are made of inputs: of their packets, or of their journal
 abbrev pub AreMadeOf : Work → List (List ℕ) → Written → Type 0
-AreMadeOf (Simulate layout programs wire manner order number journal format) inputs texts = IsOutcomeIn (Simulate layout programs wire manner order number journal format) inputs (made texts)
+AreMadeOf (Simulate layout programs wire manner order number telling format) inputs texts = IsOutcomeIn (Simulate layout programs wire manner order number telling format) inputs (made texts)
 AreMadeOf (Generate number) inputs texts = IsOutcomeIn (Generate number) inputs (made texts)
 AreMadeOf (Audit layout) inputs texts = IsAudited layout (bytes_of inputs 0) (made texts)
 
 -- their journal isn't legal from a line on
 abbrev pub IsIllegalIn : Work → List (List ℕ) → ℕ → Type 0
-IsIllegalIn (Simulate layout programs wire manner order number journal format) inputs line = ⊥
+IsIllegalIn (Simulate layout programs wire manner order number telling format) inputs line = ⊥
 IsIllegalIn (Generate number) inputs line = ⊥
 IsIllegalIn (Audit layout) inputs line = IsAudited layout (bytes_of inputs 0) (illegal line)
 
@@ -269,7 +271,7 @@ IsOutcome work inputs (long port) = IsTooLong (most_of work) inputs port
 IsOutcome work inputs (bad port cause) = AreShort (most_of work) inputs (length inputs) × HasBadCapture (format_in work) inputs port cause × IsOnPackets work
 IsOutcome work inputs (bad_file cause) = AreShort (most_of work) inputs (length inputs) × HasBadFile (format_in work) (ports_in work) inputs cause
 IsOutcome work inputs (passed excess) = AreShort (most_of work) inputs (length inputs) × IsOutcomeIn work inputs (passed excess)
-IsOutcome work inputs (stalled round) = AreShort (most_of work) inputs (length inputs) × IsOutcomeIn work inputs (stalled round)
+IsOutcome work inputs (stalled round told) = AreShort (most_of work) inputs (length inputs) × IsOutcomeIn work inputs (stalled round told)
 IsOutcome work inputs (made texts) = AreShort (most_of work) inputs (length inputs) × AreMadeOf work inputs texts
 IsOutcome work inputs (illegal line) = AreShort (most_of work) inputs (length inputs) × IsIllegalIn work inputs line
 

@@ -1,5 +1,5 @@
 -- What the steps of a command answer, and what they leave.
-use Rattle.std.specs.Prelude.{◌≡◌, ◌≢◌, ℕ, ◌+◌, ◌<◌, ◌⊎◌, true, false, All, length, List, [], ◌∷◌, map, IfSome, Option, Some, None, unwrap_or}
+use Rattle.std.specs.Prelude.{◌≡◌, ◌≢◌, ℕ, ◌+◌, ◌<◌, ◌⊎◌, true, false, All, length, List, [], ◌∷◌, ◌++◌, map, IfSome, Option, Some, None, Result, unwrap_or}
 use Rattle.std.specs.List.{slice_index_or}
 use Rattle.xsk_umem.specs.PacketList.{PacketList}
 use Rattle.xsk_io.specs.Bay.{Adds, GrowsByPart, IsOffered, Rose, Same, Moment}
@@ -13,7 +13,7 @@ use Rattle.xsk_pcap.specs.Written.{IsWritable}
 use Rattle.xsk_pcap.specs.declared.reading.BadCapture.TheVariants.{OutOfMemory as NoCause}
 use Rattle.xsk_pcapng.specs.Pcapng.{IsRefused as IsRefusedFile}
 use Rattle.xsk_pcapng.specs.declared.reading.BadPcapng.TheVariants.{OutOfMemory as NoFileCause}
-use Rattle.xsk_sim.specs.Runs.{HasStalled}
+use Rattle.xsk_plain.specs.Engine.{Engine}
 use Rattle.xsk_sim.specs.declared.simulation.SimError.{SimError}
 use Rattle.xsk_sim.specs.declared.simulation.SimError.TheVariants.{Stalled as HasNoEnd, OutOfMemory as RunMemory}
 use Rattle.xsk_turns.specs.declared.manner.Manner.{Manner}
@@ -31,16 +31,21 @@ use Rattle.xsk_cli.specs.declared.texts.Texts.{Texts}
 use Rattle.xsk_cli.specs.declared.words.Plan.{Plan as CodePlan}
 use Rattle.xsk_cli.specs.Words.{Plan, fault_in, most_of, suits_in, no_plan}
 use Rattle.xsk_cli.specs.Cause.{IsCaused, NeverFalls, NoOthers}
-use Rattle.xsk_cli.specs.Ends.{Ends}
+use Rattle.xsk_cli.specs.Ends.{ComesOf, TellsBy}
+use Rattle.xsk_cli.specs.Line.{line_of}
+use Rattle.xsk_cli.specs.Stalls.{IsStall, told_on}
+use Rattle.xsk_cli.specs.declared.words.Telling.{Telling}
 use Rattle.xsk_cli.specs.declared.words.Work.{Work}
 use Rattle.xsk_cli.specs.declared.words.Work.TheVariants.{Simulate, Generate, Audit}
 use Rattle.xsk_socket.specs.declared.layout.Layout.{Layout}
 use Rattle.xsk_socket.specs.declared.layout.Unlawful.{Unlawful}
-use Rattle.xsk_cli.specs.Streams.{HasLine, IsAtOnce, IsTold, IsFront, IsSilent, AreRead, AreWritten}
+use Rattle.xsk_cli.specs.Streams.{HasLine, IsAtOnce, IsTold, IsFront, IsSilent, AreRead, AreWritten, status_in, text_in}
 use Rattle.xsk_cli.specs.declared.failure.ReadFailure.{ReadFailure}
 use Rattle.xsk_cli.specs.declared.failure.ReadFailure.TheVariants.{Unopened as NoInput, Unread, TooLong, OutOfMemory as NoRoom}
 use Rattle.xsk_cli.specs.declared.failure.RunFailure.{RunFailure}
-use Rattle.xsk_cli.specs.declared.failure.RunFailure.TheVariants.{BadCapture as Bad, TooMuch as Excessive, Stalled as Stalls, OutOfMemory as NoMemory, NotLegal as Breaks, BadPcapng as BadFile}
+use Rattle.xsk_cli.specs.declared.failure.RunFailure.TheVariants.{BadCapture as Bad, TooMuch as Excessive, Stalled as Stalls, Explained, OutOfMemory as NoMemory, NotLegal as Breaks, BadPcapng as BadFile}
+use Rattle.xsk_cli.specs.declared.failure.Refusal.{Refusal}
+use Rattle.xsk_cli.specs.declared.failure.Refusal.TheVariants.{Bare, Stall}
 use Rattle.xsk_cli.specs.declared.failure.WriteFailure.{WriteFailure}
 use Rattle.xsk_cli.specs.declared.failure.WriteFailure.TheVariants.{Unopened, Unwritten}
 use Rattle.xsk_cli.specs.declared.status.Excess.TheVariants.{Input as LongInput}
@@ -53,13 +58,13 @@ plan_in plan = record { inputs = map (λ name. name.now) plan.inputs.now; output
 
 -- how many files are read, captures or one journal, and how many are written
 abbrev pub read_by : Work → ℕ
-read_by (Simulate layout programs wire manner order None journal format) = files_of format layout.ports
-read_by (Simulate layout programs wire manner order (Some number) journal format) = 0
+read_by (Simulate layout programs wire manner order None telling format) = files_of format layout.ports
+read_by (Simulate layout programs wire manner order (Some number) telling format) = 0
 read_by (Generate number) = 0
 read_by (Audit layout) = 1
 
 abbrev pub written_by : Work → ℕ
-written_by (Simulate layout programs wire manner order number journal format) = files_of format layout.ports
+written_by (Simulate layout programs wire manner order number telling format) = files_of format layout.ports
 written_by (Generate number) = 1
 written_by (Audit layout) = 0
 
@@ -91,28 +96,34 @@ abbrev pub run_status : RunFailure → Status
 run_status (Bad port cause) = BadCapture port cause
 run_status (Excessive excess) = TooMuch excess
 run_status (Stalls round) = Stalled round
+run_status (Explained round text) = Stalled round
 run_status NoMemory = OutOfMemory
 run_status (Breaks line) = NotLegal line
 run_status (BadFile cause) = BadPcapng cause
+
+-- and how each is told
+abbrev pub run_refusal : RunFailure → Refusal
+run_refusal (Explained round text) = Stall round text
+run_refusal failure = Bare (run_status failure)
 
 abbrev pub write_status : WriteFailure → Status
 write_status (Unopened port) = OpenFault (Output port)
 write_status (Unwritten stream) = WriteFault stream
 
--- what words come to before a refusal is told, where this is their plan and a plan ends so
-pub record ComesTo (Ending : Plan → Type 0) (planned : Option Plan) (old new : Moment) (status : Status) : Type 0 where
+-- what words come to before a refusal is told by this text, where this is their plan and work comes to a status so
+pub record ComesTo (Coming : Work → List (List ℕ) → Written → Moment → Status → Type 0) (planned : Option Plan) (old new : Moment) (status : Status) (text : List ℕ) : Type 0 where
   pub usage : status ≡ Usage → planned ≡ None
   pub unplanned : planned ≡ None → (status ≡ Usage) ⊎ (status ≡ OutOfMemory)
   pub refused : (plan : Plan) (unlawful : Unlawful) → planned ≡ Some plan → fault_in plan.work ≡ Some unlawful → (status ≡ Refused unlawful) ⊎ (status ≡ OutOfMemory)
-  pub ends : Ending (unwrap_or planned no_plan)
+  pub ends : TellsBy (Coming (unwrap_or planned no_plan).work) (unwrap_or planned no_plan) old new status text
   pub silent : HasLine status → IsSilent old new
   pub cause : IsCaused old.faults new.faults status
   pub falls : NeverFalls old.faults new.faults
   pub others : NoOthers old.faults new.faults status
   pub uncounted : IsAtOnce status → (kind : Kind) → Same (old.faults kind) (new.faults kind)
 
-abbrev pub Comes : Option Plan → Moment → Moment → Status → Type 0
-Comes planned old new status = ComesTo (λ plan. Ends plan old new status) planned old new status
+abbrev pub Comes : Option Plan → Moment → Moment → Result Unit Refusal → Type 0
+Comes planned old new result = ComesTo ComesOf planned old new (status_in result) (text_in result)
 
 -- ---- reading
 
@@ -152,6 +163,7 @@ AreUntaken inputs (Bad port cause) = AreShort (most_input Pcap) inputs (length i
 AreUntaken inputs (Excessive excess) =
     AreShort (most_input Pcap) inputs (length inputs) × ((lists : List (List (List ℕ))) × AreCaptures inputs lists × (excess_of lists ≡ Some excess))
 AreUntaken inputs (Stalls round) = ⊥
+AreUntaken inputs (Explained round text) = ⊥
 AreUntaken inputs NoMemory = Unit {0}
 AreUntaken inputs (Breaks line) = ⊥
 AreUntaken inputs (BadFile cause) = ⊥
@@ -181,11 +193,24 @@ abbrev pub sim_failure : SimError → RunFailure
 sim_failure (HasNoEnd round) = Stalls round
 sim_failure RunMemory = NoMemory
 
+-- a text is the line of a stall in a round with what is told behind it
+abbrev pub IsStallText : ℕ → List ℕ → List ℕ → Type 0
+IsStallText round told text = text ≡ line_of (Stalled round) ++ told
+
+-- why nothing is made of the object on which a run stalled in a round
+abbrev pub IsExplained : Telling → ℕ → Engine → RunFailure → Type 0
+IsExplained telling round engine (Stalls at) = (at ≡ round) × (told_on telling engine.config engine.rings engine.log ≡ [])
+IsExplained telling round engine (Explained at text) = (at ≡ round) × IsStallText round (told_on telling engine.config engine.rings engine.log) text.items
+IsExplained telling round engine NoMemory = Unit {0}
+IsExplained telling round engine failure = ⊥
+
 -- why a run of packets gives nothing
-abbrev pub FailsRunning : Layout → List Program → Wire → Manner → ℕ → List (List (List ℕ)) → RunFailure → Type 0
-FailsRunning layout programs wire manner order lists (Stalls round) = HasStalled (setting_of layout programs wire manner lists) (frames_of layout) order round
-FailsRunning layout programs wire manner order lists NoMemory = Unit {0}
-FailsRunning layout programs wire manner order lists failure = ⊥
+abbrev pub FailsRunning : Layout → List Program → Wire → Manner → ℕ → Telling → List (List (List ℕ)) → RunFailure → Type 0
+FailsRunning layout programs wire manner order telling lists (Stalls round) = IsStall (setting_of layout programs wire manner lists) (frames_of layout) order round telling []
+FailsRunning layout programs wire manner order telling lists (Explained round text) =
+    (told : List ℕ) × IsStall (setting_of layout programs wire manner lists) (frames_of layout) order round telling told × IsStallText round told text.items
+FailsRunning layout programs wire manner order telling lists NoMemory = Unit {0}
+FailsRunning layout programs wire manner order telling lists failure = ⊥
 
 -- why an audit of a text gives nothing to write
 abbrev pub FailsAudit : Layout → List ℕ → RunFailure → Type 0
@@ -196,11 +221,13 @@ FailsAudit layout text failure = ⊥
 -- no run was made
 abbrev pub IsBeforeRun : RunFailure → Type 0
 IsBeforeRun (Stalls round) = ⊥
+IsBeforeRun (Explained round text) = ⊥
 IsBeforeRun failure = Unit {0}
 
 -- why work makes nothing of packets
 abbrev pub FailsMaking : Work → List (List (List ℕ)) → RunFailure → Type 0
-FailsMaking work lists (Stalls round) = IsStalledBy work lists round
+FailsMaking work lists (Stalls round) = IsStalledBy work lists round []
+FailsMaking work lists (Explained round text) = (told : List ℕ) × IsStalledBy work lists round told × IsStallText round told text.items
 FailsMaking work lists NoMemory = Unit {0}
 FailsMaking work lists failure = ⊥
 
@@ -208,7 +235,8 @@ FailsMaking work lists failure = ⊥
 abbrev pub MakesNone : Work → List (List ℕ) → RunFailure → Type 0
 MakesNone work inputs (Bad port cause) = IsOutcome work inputs (bad port cause)
 MakesNone work inputs (Excessive excess) = IsOutcome work inputs (passed excess)
-MakesNone work inputs (Stalls round) = IsOutcome work inputs (stalled round)
+MakesNone work inputs (Stalls round) = IsOutcome work inputs (stalled round [])
+MakesNone work inputs (Explained round text) = (told : List ℕ) × IsOutcome work inputs (stalled round told) × IsStallText round told text.items
 MakesNone work inputs NoMemory = Unit {0}
 MakesNone work inputs (Breaks line) = IsOutcome work inputs (illegal line)
 MakesNone work inputs (BadFile cause) = IsOutcome work inputs (bad_file cause)
@@ -239,12 +267,17 @@ pub record AreMade (Comes : Written → Moment → Status → Type 0) (work : Wo
   pub count : length (outputs_in sent texts.outputs) ≡ written_by work
   pub laid : CanBeLaid sent texts.outputs
 
+-- no outputs, and what is told behind the line of a status, where anything is
+abbrev pub told_alone : List ℕ → Written
+told_alone told = record { outputs = []; report = told }
+
 abbrev pub no_texts : Written
-no_texts = record { outputs = []; report = [] }
+no_texts = told_alone []
 
 -- why there are no texts of inputs that were read, where a status comes so of them
 abbrev pub MakesNo : (Written → Moment → Status → Type 0) → RunFailure → Type 0
 MakesNo Comes (Excessive (LongInput port)) = ⊥
+MakesNo Comes (Explained round text) = (told : List ℕ) × IsStallText round told text.items × ((old : Moment) → Comes (told_alone told) old (Stalled round))
 MakesNo Comes failure = (old : Moment) → Comes no_texts old (run_status failure)
 
 -- ---- writing

@@ -12,7 +12,10 @@ use Rattle.xsk_io.specs.declared.bay.Stream.TheVariants.{Input, Output, Report}
 use Rattle.xsk_cli.specs.declared.status.Excess.TheVariants.{Input as TooLong}
 use Rattle.xsk_cli.specs.declared.status.Status.{Status}
 use Rattle.xsk_cli.specs.declared.status.Status.TheVariants.{Done, Usage, BadCapture, ReadFault, WriteFault, OpenFault, Refused, Stalled, TooMuch, OutOfMemory, NotLegal, BadPcapng}
+use Rattle.xsk_cli.specs.declared.failure.Refusal.{Refusal}
+use Rattle.xsk_cli.specs.declared.failure.Refusal.TheVariants.{Bare, Stall}
 use Rattle.xsk_cli.specs.Cause.{NeverFalls, Unchanged}
+use Rattle.xsk_cli.specs.Line.{line_of}
 use Rattle.xsk_cli.specs.Words.{Plan}
 
 -- the name is the text, where the bay tells it; and so of what a stream holds
@@ -171,6 +174,19 @@ name_of plan (Input port) = slice_index_or plan.inputs port []
 name_of plan (Output port) = slice_index_or plan.outputs port []
 name_of plan Report = []
 
-abbrev pub status_in : Result Unit Status → Status
+-- the status of a refusal, and all that is told of it: the line of its status, or a text
+abbrev pub refusal_status : Refusal → Status
+refusal_status (Bare status) = status
+refusal_status (Stall round text) = Stalled round
+
+abbrev pub refusal_text : Refusal → List ℕ
+refusal_text (Bare status) = line_of status
+refusal_text (Stall round text) = text.items
+
+abbrev pub status_in : Result Unit Refusal → Status
 status_in (Ok done) = Done
-status_in (Err status) = status
+status_in (Err refusal) = refusal_status refusal
+
+abbrev pub text_in : Result Unit Refusal → List ℕ
+text_in (Ok done) = line_of Done
+text_in (Err refusal) = refusal_text refusal

@@ -16,6 +16,7 @@ use Rattle.xsk_socket.specs.Layout.{fault_of}
 use Rattle.xsk_cli.specs.Format.{files_of, most_input}
 use Rattle.xsk_cli.specs.declared.format.Format.{Format}
 use Rattle.xsk_cli.specs.declared.format.Format.TheVariants.{Pcap, Pcapng}
+use Rattle.xsk_cli.specs.declared.words.Telling.{Telling}
 use Rattle.xsk_cli.specs.declared.words.Work.{Work}
 use Rattle.xsk_cli.specs.declared.words.Work.TheVariants.{Simulate, Generate, Audit}
 
@@ -65,6 +66,7 @@ rounds_options =
     (codes "order", a_number)
     ∷ (codes "mangle", a_number)
     ∷ (codes "journal", nothing)
+    ∷ (codes "why", nothing)
     ∷ []
 
 -- those of a run on threads
@@ -158,11 +160,15 @@ inputs_named said = if are_made said then 0 else files_of (format_of said) (port
 abbrev pub manner_of : Meaning → Manner
 manner_of said = record { mangle = number_of said (codes "mangle"); after = number_or said (codes "after") 0 }
 
+-- what is told of a run in rounds besides its figures
+abbrev pub telling_of : Meaning → Telling
+telling_of said = record { journal = is_some (said (codes "journal")); why = is_some (said (codes "why")) }
+
 abbrev pub plan_by : Meaning → Plan
 plan_by said = record {
   inputs = take (inputs_named said) (files_in said);
   outputs = drop (inputs_named said) (files_in said);
-  work = Simulate (layout_by said) (programs_of said) (wire_of said) (manner_of said) (number_or said (codes "order") 0) (number_of said (codes "gen")) (is_some (said (codes "journal"))) (format_of said);
+  work = Simulate (layout_by said) (programs_of said) (wire_of said) (manner_of said) (number_or said (codes "order") 0) (number_of said (codes "gen")) (telling_of said) (format_of said);
 }
 
 -- with pcapng there are two files, or one where the packets are made
@@ -223,7 +229,7 @@ plan_of (first ∷ rest) =
 
 -- why the work is refused, where it is
 abbrev pub fault_in : Work → Option Unlawful
-fault_in (Simulate layout programs wire manner order number journal format) = fault_of layout
+fault_in (Simulate layout programs wire manner order number telling format) = fault_of layout
 fault_in (Generate number) = None
 fault_in (Audit layout) = fault_of layout
 
@@ -232,24 +238,24 @@ abbrev pub suits_hands : Layout → Manner → Bool
 suits_hands layout manner = layout.hands == 1 || (not (is_some layout.close) && manner.after == 0)
 
 abbrev pub suits_in : Work → Bool
-suits_in (Simulate layout programs wire manner order number journal format) = suits_hands layout manner
+suits_in (Simulate layout programs wire manner order number telling format) = suits_hands layout manner
 suits_in (Generate number) = true
 suits_in (Audit layout) = true
 
 -- how many ports have packets
 abbrev pub ports_in : Work → ℕ
-ports_in (Simulate layout programs wire manner order number journal format) = layout.ports
+ports_in (Simulate layout programs wire manner order number telling format) = layout.ports
 ports_in (Generate number) = 1
 ports_in (Audit layout) = 0
 
 -- the format of the files of packets
 abbrev pub format_in : Work → Format
-format_in (Simulate layout programs wire manner order number journal format) = format
+format_in (Simulate layout programs wire manner order number telling format) = format
 format_in (Generate number) = Pcap
 format_in (Audit layout) = Pcap
 
 -- the most bytes of one input: of a file of packets, or of a journal
 abbrev pub most_of : Work → ℕ
-most_of (Simulate layout programs wire manner order number journal format) = most_input format
+most_of (Simulate layout programs wire manner order number telling format) = most_input format
 most_of (Generate number) = most_input Pcap
 most_of (Audit layout) = 67108864

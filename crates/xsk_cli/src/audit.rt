@@ -6,12 +6,11 @@ ghost use Rattle.xsk_io.specs.Bay.{NoneOpen};
 ghost use Rattle.xsk_socket.specs.Layout.{fault_of};
 ghost use Rattle.xsk_cli.specs.Outcome.{IsAudited, legal_text, made};
 ghost use Rattle.xsk_cli.specs.Steps.{CanBeLaid, Comes, FailsAudit, written_in};
-ghost use Rattle.xsk_cli.specs.Streams.{status_in};
 ghost use Rattle.xsk_cli.specs.Words.{audit_plan, audit_plan_by, files_in, layout_by, without_files};
 
 use crate::Status;
 use crate::chain::Chained;
-use crate::failure::RunFailure;
+use crate::failure::{Refusal, RunFailure};
 use crate::options::LAYOUT;
 use crate::setup::set_up;
 use crate::texts::{Outputs, Texts};
@@ -26,31 +25,31 @@ use xsk_socket::{Layout, Unlawful, check_layout};
 use xsk_umem::OutOfMemory;
 
 /// Does what words say that begin with `audit`.
-pub(crate) fn run_audit<B: Bay>(alloc: Global, words: &[String], bay: &mut B) -> Result<(), Status>
+pub(crate) fn run_audit<B: Bay>(alloc: Global, words: &[String], bay: &mut B) -> Result<(), Refusal>
     requires { NoneOpen (B.moment bay.old) }
-    ensures { Comes (audit_plan (map string_bytes words.now)) (B.moment bay.old) (B.moment bay.new) (status_in result) }
+    ensures { Comes (audit_plan (map string_bytes words.now)) (B.moment bay.old) (B.moment bay.new) result }
 {
     let args = parse(alloc, "audit", &[&LAYOUT], words)?;
     audit_said(alloc, &args, bay)
 }
 
 /// Does what the words of an audit say.
-fn audit_said<B: Bay>(alloc: Global, args: &Args<'_>, bay: &mut B) -> Result<(), Status>
+fn audit_said<B: Bay>(alloc: Global, args: &Args<'_>, bay: &mut B) -> Result<(), Refusal>
     requires { NoneOpen (B.moment bay.old) }
-    ensures { Comes (audit_plan_by (under args.now) (files_in (under args.now))) (B.moment bay.old) (B.moment bay.new) (status_in result) }
+    ensures { Comes (audit_plan_by (under args.now) (files_in (under args.now))) (B.moment bay.old) (B.moment bay.new) result }
 {
     let Some(file) = one_file(args) else {
-        return Err(Status::Usage);
+        return Err(Refusal::Bare(Status::Usage));
     };
     let layout = audited_layout(args)?;
     audit_file(alloc, file, layout, bay)
 }
 
 /// Audits the journal of a file by an accepted layout.
-fn audit_file<B: Bay>(alloc: Global, file: &str, layout: Layout, bay: &mut B) -> Result<(), Status>
+fn audit_file<B: Bay>(alloc: Global, file: &str, layout: Layout, bay: &mut B) -> Result<(), Refusal>
     requires closed { NoneOpen (B.moment bay.old) }
     requires accepted { fault_of layout ≡ None }
-    ensures { Comes (Some (record { inputs = file.now ∷ []; outputs = []; work = Work.Audit layout })) (B.moment bay.old) (B.moment bay.new) (status_in result) }
+    ensures { Comes (Some (record { inputs = file.now ∷ []; outputs = []; work = Work.Audit layout })) (B.moment bay.old) (B.moment bay.new) result }
 {
     let inputs = [file];
     let plan = Plan {

@@ -2,16 +2,15 @@
 ghost use Rattle.std.specs.Prelude.{ℕ, Option, List, None, Some, IfErr, IfOk, length, map};
 ghost use Rattle.xsk_io.specs.Bay.{Moment, NoneOpen};
 ghost use Rattle.xsk_cli.specs.Cause.{IsCaused, NeverFalls, NoOthers};
-ghost use Rattle.xsk_cli.specs.Ends.{ComesOf, EndsBy};
+ghost use Rattle.xsk_cli.specs.Ends.{ComesOf, TellsBy};
 ghost use Rattle.xsk_cli.specs.Outcome.{Written};
 ghost use Rattle.xsk_cli.specs.Forward.{IsAfterRun};
 ghost use Rattle.xsk_cli.specs.Steps.{AreFor, AreMade, IsReady, MakesNo, plan_in};
-ghost use Rattle.xsk_cli.specs.Streams.{HasLine, IsAtOnce, IsSilent, status_in};
+ghost use Rattle.xsk_cli.specs.Streams.{HasLine, IsAtOnce, IsSilent, status_in, text_in};
 ghost use Rattle.xsk_cli.specs.declared.status.Status.{Status as AStatus};
 ghost use Rattle.xsk_cli.specs.declared.words.Work.{Work as AWork};
 
-use crate::Status;
-use crate::failure::RunFailure;
+use crate::failure::{Refusal, RunFailure};
 use crate::input::read_inputs;
 use crate::leaves::Leaves;
 use crate::output::write_texts;
@@ -34,7 +33,7 @@ pub(crate) struct Unmade<L> {
 
 /// How a command ended, and what its run left, where one has ended.
 pub(crate) struct Chained<L> {
-    pub(crate) result: Result<(), Status>,
+    pub(crate) result: Result<(), Refusal>,
     pub(crate) left: Option<L>,
 }
 
@@ -66,7 +65,7 @@ pub(crate) fn run_plan<
     requires unmade { (inputs : _) (answer : _) → AreFor plan.now.work (map (λ bytes. bytes.items) inputs.items) (length inputs.items) → F.post make inputs answer
         → IfErr answer (λ unmade. MakesNo (M.comes plan.now.work unmade.left (map (λ bytes. bytes.items) inputs.items)) unmade.failure) }
     ensures begun { IsAtOnce (status_in result.result) → ⊥ }
-    ensures ends { EndsBy (M.comes plan.now.work result.left) (plan_in plan.now) (B.moment bay.old) (B.moment bay.new) (status_in result.result) }
+    ensures ends { TellsBy (M.comes plan.now.work result.left) (plan_in plan.now) (B.moment bay.old) (B.moment bay.new) (status_in result.result) (text_in result.result) }
     ensures silent { HasLine (status_in result.result) → IsSilent (B.moment bay.old) (B.moment bay.new) }
     ensures cause { IsCaused (B.moment bay.old).faults (B.moment bay.new).faults (status_in result.result) }
     ensures others { NoOthers (B.moment bay.old).faults (B.moment bay.new).faults (status_in result.result) }
@@ -76,7 +75,7 @@ pub(crate) fn run_plan<
         Ok(inputs) => inputs,
         Err(failure) => {
             return Chained {
-                result: Err(Status::from(failure)),
+                result: Err(Refusal::from(failure)),
                 left: None,
             };
         }
@@ -85,7 +84,7 @@ pub(crate) fn run_plan<
         Ok(Made { texts, left }) => (texts, left),
         Err(Unmade { failure, left }) => {
             return Chained {
-                result: Err(Status::from(failure)),
+                result: Err(Refusal::from(failure)),
                 left,
             };
         }
@@ -96,7 +95,7 @@ pub(crate) fn run_plan<
             left: Some(left),
         },
         Err(failure) => Chained {
-            result: Err(Status::from(failure)),
+            result: Err(Refusal::from(failure)),
             left: Some(left),
         },
     }

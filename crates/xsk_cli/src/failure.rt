@@ -2,10 +2,12 @@
 
 use crate::{Excess, Status};
 use std::alloc::AllocError;
+use xsk_args::ArgsError;
 use xsk_io::Stream;
 use xsk_pcap::BadCapture;
 use xsk_pcapng::BadPcapng;
 use xsk_sim::SimError;
+use xsk_socket::Unlawful;
 use xsk_umem::OutOfMemory;
 
 /// Why the inputs weren't read.
@@ -21,15 +23,26 @@ pub(crate) enum ReadFailure {
 }
 
 /// Why nothing was made of the inputs.
-#[derive(Clone, Copy)]
+#[derive(Drop)]
 pub(crate) enum RunFailure {
     BadCapture { port: u32, cause: BadCapture },
     TooMuch(Excess),
     Stalled { round: u64 },
+    /// The run stalled, and the text is the line of the stall with what is told behind it.
+    Explained { round: u64, text: Vec<u8> },
     OutOfMemory,
     /// The journal isn't legal from this line on.
     NotLegal { line: u64 },
     BadPcapng(BadPcapng),
+}
+
+/// Why a command didn't end well, as it is told.
+#[derive(Drop)]
+pub(crate) enum Refusal {
+    /// In the line of the status.
+    Bare(Status),
+    /// The run stalled in this round, and the text is the line of the stall with what is told behind it.
+    Stall { round: u64, text: Vec<u8> },
 }
 
 /// Why the texts weren't written.
@@ -87,54 +100,83 @@ impl From<SimError> for RunFailure {
     }
 }
 
-impl From<ReadFailure> for Status {
+impl From<ReadFailure> for Refusal {
     ghost use Rattle.std.specs.Prelude.{◌≡◌};
     ghost use Rattle.xsk_cli.specs.Steps.{read_status};
+    ghost use Rattle.xsk_cli.specs.declared.failure.Refusal.TheVariants.{Bare as InALine};
 
-    ghost from_gives = { λ failure status. status ≡ read_status failure };
+    ghost from_gives = { λ failure refusal. refusal ≡ InALine (read_status failure) };
 
-    fn from(failure: ReadFailure) -> Status {
-        match failure {
+    fn from(failure: ReadFailure) -> Refusal {
+        Refusal::Bare(match failure {
             ReadFailure::Unopened(port) => Status::OpenFault {
                 stream: Stream::Input(port),
             },
             ReadFailure::Unread(port) => Status::ReadFault { port },
             ReadFailure::TooLong(port) => Status::TooMuch(Excess::Input(port)),
             ReadFailure::OutOfMemory => Status::OutOfMemory,
-        }
+        })
     }
 }
 
-impl From<RunFailure> for Status {
+impl From<RunFailure> for Refusal {
     ghost use Rattle.std.specs.Prelude.{◌≡◌};
-    ghost use Rattle.xsk_cli.specs.Steps.{run_status};
+    ghost use Rattle.xsk_cli.specs.Steps.{run_refusal};
 
-    ghost from_gives = { λ failure status. status ≡ run_status failure };
+    ghost from_gives = { λ failure refusal. refusal ≡ run_refusal failure };
 
-    fn from(failure: RunFailure) -> Status {
+    fn from(failure: RunFailure) -> Refusal {
         match failure {
-            RunFailure::BadCapture { port, cause } => Status::BadCapture { port, cause },
-            RunFailure::TooMuch(excess) => Status::TooMuch(excess),
-            RunFailure::Stalled { round } => Status::Stalled { round },
-            RunFailure::OutOfMemory => Status::OutOfMemory,
-            RunFailure::NotLegal { line } => Status::NotLegal { line },
-            RunFailure::BadPcapng(cause) => Status::BadPcapng(cause),
+            RunFailure::BadCapture { port, cause } => {
+                Refusal::Bare(Status::BadCapture { port, cause })
+            }
+            RunFailure::TooMuch(excess) => Refusal::Bare(Status::TooMuch(excess)),
+            RunFailure::Stalled { round } => Refusal::Bare(Status::Stalled { round }),
+            RunFailure::Explained { round, text } => Refusal::Stall { round, text },
+            RunFailure::OutOfMemory => Refusal::Bare(Status::OutOfMemory),
+            RunFailure::NotLegal { line } => Refusal::Bare(Status::NotLegal { line }),
+            RunFailure::BadPcapng(cause) => Refusal::Bare(Status::BadPcapng(cause)),
         }
     }
 }
 
-impl From<WriteFailure> for Status {
+impl From<WriteFailure> for Refusal {
     ghost use Rattle.std.specs.Prelude.{◌≡◌};
     ghost use Rattle.xsk_cli.specs.Steps.{write_status};
+    ghost use Rattle.xsk_cli.specs.declared.failure.Refusal.TheVariants.{Bare as InALine};
 
-    ghost from_gives = { λ failure status. status ≡ write_status failure };
+    ghost from_gives = { λ failure refusal. refusal ≡ InALine (write_status failure) };
 
-    fn from(failure: WriteFailure) -> Status {
-        match failure {
+    fn from(failure: WriteFailure) -> Refusal {
+        Refusal::Bare(match failure {
             WriteFailure::Unopened(port) => Status::OpenFault {
                 stream: Stream::Output(port),
             },
             WriteFailure::Unwritten(stream) => Status::WriteFault { stream },
-        }
+        })
+    }
+}
+
+impl From<ArgsError> for Refusal {
+    ghost use Rattle.std.specs.Prelude.{◌≡◌};
+    ghost use Rattle.xsk_cli.specs.Steps.{args_status};
+    ghost use Rattle.xsk_cli.specs.declared.failure.Refusal.TheVariants.{Bare as InALine};
+
+    ghost from_gives = { λ error refusal. refusal ≡ InALine (args_status error) };
+
+    fn from(error: ArgsError) -> Refusal {
+        Refusal::Bare(Status::from(error))
+    }
+}
+
+impl From<Unlawful> for Refusal {
+    ghost use Rattle.std.specs.Prelude.{◌≡◌};
+    ghost use Rattle.xsk_cli.specs.declared.failure.Refusal.TheVariants.{Bare as InALine};
+    ghost use Rattle.xsk_cli.specs.declared.status.Status.TheVariants.{Refused as IsRefused};
+
+    ghost from_gives = { λ unlawful refusal. refusal ≡ InALine (IsRefused unlawful) };
+
+    fn from(unlawful: Unlawful) -> Refusal {
+        Refusal::Bare(Status::Refused(unlawful))
     }
 }

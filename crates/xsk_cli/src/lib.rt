@@ -20,6 +20,7 @@ mod programs;
 mod rounds;
 mod setup;
 mod shown;
+mod stalls;
 mod status;
 mod texts;
 mod thread_run;

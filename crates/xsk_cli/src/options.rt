@@ -145,7 +145,7 @@ pub const RUN: [OptionRow; 5] = [
 ];
 
 /// Those of a run in rounds: `simulate`'s.
-pub const ROUNDS: [OptionRow; 3] = [
+pub const ROUNDS: [OptionRow; 4] = [
     OptionRow {
         name: "order",
         takes: Takes::Number,
@@ -166,6 +166,13 @@ pub const ROUNDS: [OptionRow; 3] = [
         about: "behind the report a line for each call",
         accepts: "",
         unsaid: "the report alone",
+    },
+    OptionRow {
+        name: "why",
+        takes: Takes::Nothing,
+        about: "behind the line of a stall what each worker waits for and what stands in each ring, and with --journal the calls so far",
+        accepts: "",
+        unsaid: "the line alone",
     },
 ];
 

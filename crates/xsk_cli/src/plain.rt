@@ -7,12 +7,13 @@ ghost use Rattle.xsk_cli.specs.Cause.{NeverFalls, Unchanged};
 ghost use Rattle.xsk_cli.specs.Forward.{IsPlainAnswer};
 ghost use Rattle.xsk_cli.specs.Line.{line_of};
 ghost use Rattle.xsk_cli.specs.Steps.{Comes};
-ghost use Rattle.xsk_cli.specs.Streams.{GotLine, HasLine, IsSilent, status_in};
+ghost use Rattle.xsk_cli.specs.Streams.{GotLine, HasLine, IsSilent, status_in, text_in};
 ghost use Rattle.xsk_cli.specs.Words.{gen_plan, plan_of, simulate_plan};
 
 use crate::Status;
 use crate::audit::run_audit;
 use crate::chain::Chained;
+use crate::failure::Refusal;
 use crate::line::line;
 use crate::options::{LAYOUT, ROUNDS, RUN};
 use crate::rounds::run_in_rounds;
@@ -30,7 +31,8 @@ use xsk_io::{Bay, Stream, write_whole};
 /// instead. With `--pcapng` one pcapng file is read, whose interfaces are the ports, and one is written. `gen N FILE` writes a
 /// capture of the packets that are made of a number, and then the line `packets P bytes B`. `audit [OPTION ..] FILE` reads a
 /// journal, and tells by the line `legal N` that it is the journal of a legal history with so many entries, or by the status
-/// the first line that isn't. A refusal is told in one line to the report.
+/// the first line that isn't. A refusal is told in one line to the report; behind that of
+/// a stall `--why` tells what each worker waits for and what stands in each ring, and with `--journal` the calls so far.
 pub fn run_plain<B: Bay>(alloc: Global, words: &[String], bay: &mut B) -> Status
     requires { NoneOpen (B.moment bay.old) }
     ensures answer { IsPlainAnswer (plan_of (map string_bytes words.now)) (B.moment bay.old) (B.moment bay.new) result }
@@ -40,27 +42,28 @@ pub fn run_plain<B: Bay>(alloc: Global, words: &[String], bay: &mut B) -> Status
     ensures goes_on { GoesOn (plan_of (map string_bytes words.now)) result }
     ensures finishes { Finishes (plan_of (map string_bytes words.now)) (B.moment bay.old) (B.moment bay.new) result }
 {
-    let status = status_of(run_words(alloc, words, bay));
-    tell(bay, &status);
-    status
+    let answer = run_words(alloc, words, bay);
+    tell_answer(bay, &answer);
+    status_of(answer)
 }
 
-pub(crate) fn status_of(answer: Result<(), Status>) -> Status
+pub(crate) fn status_of(answer: Result<(), Refusal>) -> Status
     ensures { result ≡ status_in answer }
 {
     match answer {
         Ok(()) => Status::Done,
-        Err(status) => status,
+        Err(Refusal::Bare(status)) => status,
+        Err(Refusal::Stall { round, .. }) => Status::Stalled { round },
     }
 }
 
 /// Does what the words say, and tells nothing of a refusal.
-fn run_words<B: Bay>(alloc: Global, words: &[String], bay: &mut B) -> Result<(), Status>
+fn run_words<B: Bay>(alloc: Global, words: &[String], bay: &mut B) -> Result<(), Refusal>
     requires { NoneOpen (B.moment bay.old) }
-    ensures { Comes (plan_of (map string_bytes words.now)) (B.moment bay.old) (B.moment bay.new) (status_in result) }
+    ensures { Comes (plan_of (map string_bytes words.now)) (B.moment bay.old) (B.moment bay.new) result }
 {
     let Some((first, rest)) = words.split_first() else {
-        return Err(Status::Usage);
+        return Err(Refusal::Bare(Status::Usage));
     };
     if first.as_str() == "gen" {
         run_gen(alloc, rest, bay)
@@ -72,12 +75,12 @@ fn run_words<B: Bay>(alloc: Global, words: &[String], bay: &mut B) -> Result<(),
 }
 
 /// Does what the words behind `gen` say.
-fn run_gen<B: Bay>(alloc: Global, words: &[String], bay: &mut B) -> Result<(), Status>
+fn run_gen<B: Bay>(alloc: Global, words: &[String], bay: &mut B) -> Result<(), Refusal>
     requires { NoneOpen (B.moment bay.old) }
-    ensures { Comes (gen_plan (map string_bytes words.now)) (B.moment bay.old) (B.moment bay.new) (status_in result) }
+    ensures { Comes (gen_plan (map string_bytes words.now)) (B.moment bay.old) (B.moment bay.new) result }
 {
     let Some((number, file)) = read_gen(words) else {
-        return Err(Status::Usage);
+        return Err(Refusal::Bare(Status::Usage));
     };
     let outputs = [file];
     let plan = Plan {
@@ -93,9 +96,9 @@ fn run_gen<B: Bay>(alloc: Global, words: &[String], bay: &mut B) -> Result<(), S
 }
 
 /// Does what words say that begin with `simulate`.
-fn run_simulate<B: Bay>(alloc: Global, words: &[String], bay: &mut B) -> Result<(), Status>
+fn run_simulate<B: Bay>(alloc: Global, words: &[String], bay: &mut B) -> Result<(), Refusal>
     requires { NoneOpen (B.moment bay.old) }
-    ensures { Comes (simulate_plan (map string_bytes words.now)) (B.moment bay.old) (B.moment bay.new) (status_in result) }
+    ensures { Comes (simulate_plan (map string_bytes words.now)) (B.moment bay.old) (B.moment bay.new) result }
 {
     let args = parse(alloc, "simulate", &[&LAYOUT, &RUN, &ROUNDS], words)?;
     check_words(&args)?;
@@ -105,6 +108,28 @@ fn run_simulate<B: Bay>(alloc: Global, words: &[String], bay: &mut B) -> Result<
         left: _sent,
     } = run_in_rounds(alloc, &plan, bay);
     result
+}
+
+/// Writes all that is told of a refusal to the report. A fault there changes nothing.
+fn tell_answer<B: Bay>(bay: &mut B, answer: &Result<(), Refusal>)
+    ensures line { HasLine (status_in answer.now) → GotLine (text_in answer.now) (B.moment bay.old) (B.moment bay.new) }
+    ensures silent { (HasLine (status_in answer.now) → ⊥) → IsSilent (B.moment bay.old) (B.moment bay.new) }
+    ensures offers { AddsNoneBut Stream.Report (B.moment bay.old).offers (B.moment bay.new).offers }
+    ensures held { SameBut Stream.Report (B.moment bay.old).held (B.moment bay.new).held }
+    ensures opened { Same (B.moment bay.old).is_open (B.moment bay.new).is_open }
+    ensures asked { Same (B.moment bay.old).asked (B.moment bay.new).asked }
+    ensures left { Same (B.moment bay.old).left (B.moment bay.new).left }
+    ensures falls { NeverFalls (B.moment bay.old).faults (B.moment bay.new).faults }
+    ensures counts { CountsOnly Kind.Write Stream.Report (B.moment bay.old).faults (B.moment bay.new).faults }
+    ensures unchanged { (HasLine (status_in answer.now) → ⊥) → Unchanged (B.moment bay.old).faults (B.moment bay.new).faults }
+{
+    match answer {
+        Ok(()) => {}
+        Err(Refusal::Bare(status)) => tell(bay, status),
+        Err(Refusal::Stall { text, .. }) => {
+            let _told = write_whole(bay, Stream::Report, text.as_slice());
+        }
+    }
 }
 
 /// Writes the line of a refusal to the report. A fault there changes nothing.

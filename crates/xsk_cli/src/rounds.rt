@@ -10,7 +10,7 @@ ghost use Rattle.xsk_socket.specs.Regular.{regular_of};
 ghost use Rattle.xsk_stats.specs.Report.{report_text};
 ghost use Rattle.xsk_io.specs.Bay.{NoneOpen};
 ghost use Rattle.xsk_cli.specs.Cause.{IsCaused, NeverFalls, NoOthers};
-ghost use Rattle.xsk_cli.specs.Ends.{ComesOf, Ends};
+ghost use Rattle.xsk_cli.specs.Ends.{ComesOf, Tells};
 ghost use Rattle.xsk_cli.specs.Streams.{HasLine, IsAtOnce, IsSilent, status_in};
 ghost use Rattle.xsk_cli.specs.Forward.{IsRun};
 ghost use Rattle.xsk_cli.specs.Judged.{AreShort, excess_of};
@@ -25,15 +25,16 @@ use crate::format::Format;
 use crate::lists::take_lists;
 use crate::programs::chain_of;
 use crate::setup::set_up;
+use crate::stalls::explain;
 use crate::texts::{Texts, sent_outputs};
-use crate::words::{Plan, Work};
+use crate::words::{Plan, Telling, Work};
 use std::alloc::Global;
 use xsk_args::ProgramList;
 use xsk_io::Bay;
 use xsk_machine::Sent;
 use xsk_model::Config;
 use xsk_prog::{Rule, XdpProgram};
-use xsk_sim::{Run, append_journal, simulate, simulate_unlogged};
+use xsk_sim::{Run, Unended, append_journal, simulate_unlogged, simulate_with_object};
 use xsk_socket::Layout;
 use xsk_stats::report;
 use xsk_turns::{Manner, Wire};
@@ -62,7 +63,7 @@ pub(crate) fn run_in_rounds<B: Bay>(
     requires runs { IsRun plan.now.work }
     requires closed { NoneOpen (B.moment bay.old) }
     ensures begun { IsAtOnce (status_in result.result) → ⊥ }
-    ensures ends { Ends (plan_in plan.now) (B.moment bay.old) (B.moment bay.new) (status_in result.result) }
+    ensures ends { Tells (plan_in plan.now) (B.moment bay.old) (B.moment bay.new) result.result }
     ensures silent { HasLine (status_in result.result) → IsSilent (B.moment bay.old) (B.moment bay.new) }
     ensures cause { IsCaused (B.moment bay.old).faults (B.moment bay.new).faults (status_in result.result) }
     ensures others { NoOthers (B.moment bay.old).faults (B.moment bay.new).faults (status_in result.result) }
@@ -124,11 +125,11 @@ fn run_work(alloc: Global, work: &Work, lists: Vec<PacketList>) -> Result<Made<S
             wire,
             manner,
             order,
-            journal,
+            telling,
             format,
             ..
         } => run_texts(
-            alloc, *format, layout, programs, *wire, *manner, *order, *journal, lists,
+            alloc, *format, layout, programs, *wire, *manner, *order, *telling, lists,
         ),
         Work::Generate { .. } | Work::Audit { .. } => unreachable!(),
     }
@@ -144,7 +145,7 @@ fn run_texts(
     wire: Wire,
     manner: Manner,
     order: u32,
-    journal: bool,
+    telling: Telling,
     lists: Vec<PacketList>,
 ) -> Result<Made<Sent>, RunFailure>
     requires accepted { fault_of layout.now ≡ None }
@@ -152,9 +153,9 @@ fn run_texts(
     requires within { excess_of (lists_in lists.items) ≡ None }
     requires listed { lists.items ≡ map listed (lists_in lists.items) }
     requires short { All HasShortPackets lists.items }
-    ensures made { IfOk result (λ ran. AreTextsOf format layout.now programs.now wire manner order (lists_in lists.items) journal (written_in ran.left.lists ran.texts)) }
+    ensures made { IfOk result (λ ran. AreTextsOf format layout.now programs.now wire manner order (lists_in lists.items) telling.journal (written_in ran.left.lists ran.texts)) }
     ensures laid { IfOk result (λ ran. CanBeLaid ran.left.lists ran.texts.outputs) }
-    ensures failed { IfErr result (FailsRunning layout.now programs.now wire manner order (lists_in lists.items)) }
+    ensures failed { IfErr result (FailsRunning layout.now programs.now wire manner order telling (lists_in lists.items)) }
 {
     let (left, report) = run_lists(
         alloc,
@@ -163,7 +164,7 @@ fn run_texts(
         wire,
         manner,
         order,
-        journal,
+        telling,
         lists.as_slice(),
     )?;
     let spare = spare_text(alloc, lists);
@@ -180,7 +181,7 @@ fn run_texts(
 }
 
 /// Runs the lists of all ports under the programs' rules, with the wire, and tells what was sent, with the report. Where the
-/// journal was asked for, it stands behind the report, and else no log is kept of the run.
+/// journal was asked for, it stands behind the report. No log is kept of the run where neither this nor why it stalls was asked for.
 #[allow(clippy::too_many_arguments)]
 fn run_lists(
     alloc: Global,
@@ -189,7 +190,7 @@ fn run_lists(
     wire: Wire,
     manner: Manner,
     order: u32,
-    journal: bool,
+    telling: Telling,
     lists: &[PacketList],
 ) -> Result<(Sent, Vec<u8>), RunFailure>
     requires accepted { fault_of layout.now ≡ None }
@@ -198,8 +199,8 @@ fn run_lists(
     requires short { All HasShortPackets lists.now }
     ensures pairs { IfOk result (λ ran. length ran.0.lists ≡ pairs_in layout.now) }
     ensures ended { IfOk result (λ ran. (run : Shown) × HasEnded (setting_of layout.now programs.now wire manner (lists_in lists.now)) (frames_of layout.now) order run
-        × IsSentBy run ran.0 × (ran.1.items ≡ report_text (regular_of layout.now) run.figures ++ (if journal then journal_of run.pairs run.log else []))) }
-    ensures failed { IfErr result (FailsRunning layout.now programs.now wire manner order (lists_in lists.now)) }
+        × IsSentBy run ran.0 × (ran.1.items ≡ report_text (regular_of layout.now) run.figures ++ (if telling.journal then journal_of run.pairs run.log else []))) }
+    ensures failed { IfErr result (FailsRunning layout.now programs.now wire manner order telling (lists_in lists.now)) }
 {
     let (config, frames) = set_up(alloc, layout)?;
     let shared = config.copy(alloc)?;
@@ -209,27 +210,39 @@ fn run_lists(
             move |packet: &[u8], queue: u32| rule.verdict(packet, queue),
         )
     })?;
-    if journal {
-        let run = simulate(
+    if !telling.journal && !telling.why {
+        let sent = simulate_unlogged(
             alloc, config, frames, lists, &mut chain, wire, order, manner,
         )?;
-        let text = told_text(alloc, &shared, &run)?;
-        return Ok((run.into_sent(), text));
+        let text = report(alloc, &shared, sent.figures())?;
+        return Ok((sent, text));
     }
-    let sent = simulate_unlogged(
+    match simulate_with_object(
         alloc, config, frames, lists, &mut chain, wire, order, manner,
-    )?;
-    let text = report(alloc, &shared, sent.figures())?;
-    Ok((sent, text))
+    ) {
+        Ok(run) => {
+            let text = told_text(alloc, &shared, &run, telling.journal)?;
+            Ok((run.into_sent(), text))
+        }
+        Err(Unended::Stalled { round, object }) => Err(explain(alloc, round, &object, telling)),
+        Err(Unended::OutOfMemory) => Err(RunFailure::OutOfMemory),
+    }
 }
 
-/// The report of a run, and the journal behind it.
-fn told_text(alloc: Global, config: &Config, run: &Run) -> Result<Vec<u8>, OutOfMemory>
+/// The report of a run, and the journal behind it where that was asked for.
+fn told_text(
+    alloc: Global,
+    config: &Config,
+    run: &Run,
+    journal: bool,
+) -> Result<Vec<u8>, OutOfMemory>
     requires regular { IsRegular config.now }
     requires drivers { length run.now.figures.drivers ≡ length config.now.pairs }
-    ensures { IfOk result (λ text. text.items ≡ report_text config.now run.now.figures ++ journal_of run.now.pairs run.now.log) }
+    ensures { IfOk result (λ text. text.items ≡ report_text config.now run.now.figures ++ (if journal then journal_of run.now.pairs run.now.log else [])) }
 {
     let mut text = report(alloc, config, run.figures())?;
-    append_journal(alloc, &mut text, run)?;
+    if journal {
+        append_journal(alloc, &mut text, run)?;
+    }
     Ok(text)
 }

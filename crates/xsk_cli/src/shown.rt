@@ -12,8 +12,9 @@ ghost use Rattle.xsk_stats.specs.Report.{report_text};
 ghost use Rattle.xsk_workers.specs.Forwarded.{HasForwarded, OutcomeShown};
 ghost use Rattle.xsk_io.specs.Bay.{NoneOpen};
 ghost use Rattle.xsk_cli.specs.Cause.{IsCaused, NeverFalls, NoOthers};
-ghost use Rattle.xsk_cli.specs.Streams.{HasLine, IsAtOnce, IsSilent, status_in};
-ghost use Rattle.xsk_cli.specs.Forward.{AreTextsFrom, ComesShown, EndsShown, HasShown, IsRun, unmangled};
+ghost use Rattle.xsk_cli.specs.Ends.{TellsBy};
+ghost use Rattle.xsk_cli.specs.Streams.{HasLine, IsAtOnce, IsSilent, status_in, text_in};
+ghost use Rattle.xsk_cli.specs.Forward.{AreTextsFrom, ComesShown, HasShown, IsRun, unmangled};
 ghost use Rattle.xsk_cli.specs.Format.{joined, outputs_of};
 ghost use Rattle.xsk_cli.specs.Judged.{excess_of};
 ghost use Rattle.xsk_cli.specs.Outcome.{AreTextsIn, frames_of, listed, report_of, setting_of};
@@ -66,7 +67,7 @@ pub(crate) fn run_on_threads<R: Threads + Wait + Sync, B: Bay, G: Gate + Sync>(
     requires runs { IsRun plan.now.work }
     requires closed { NoneOpen (B.moment bay.old) }
     ensures begun { IsAtOnce (status_in result.result) → ⊥ }
-    ensures ends { EndsShown result.left (B.moment bay.old) (B.moment bay.new) (status_in result.result) (plan_in plan.now) }
+    ensures ends { TellsBy (ComesShown plan.now.work result.left) (plan_in plan.now) (B.moment bay.old) (B.moment bay.new) (status_in result.result) (text_in result.result) }
     ensures silent { HasLine (status_in result.result) → IsSilent (B.moment bay.old) (B.moment bay.new) }
     ensures cause { IsCaused (B.moment bay.old).faults (B.moment bay.new).faults (status_in result.result) }
     ensures others { NoOthers (B.moment bay.old).faults (B.moment bay.new).faults (status_in result.result) }

@@ -4,7 +4,8 @@ ghost use Rattle.std.specs.Process.{exit_status};
 ghost use Rattle.xsk_io.specs.Bay.{NoneOpen};
 ghost use Rattle.xsk_cli.specs.Ample.{Finishes, GoesOn};
 ghost use Rattle.xsk_cli.specs.ExitStatus.{exit_status_of};
-ghost use Rattle.xsk_cli.specs.Forward.{EndsShown, IsPlainAnswer, IsShownAnswer, ended_in, forward_plan as planned_by, is_forward as are_forward};
+ghost use Rattle.xsk_cli.specs.Forward.{ComesShown, IsPlainAnswer, IsShownAnswer, ended_in, forward_plan as planned_by, is_forward as are_forward};
+ghost use Rattle.xsk_cli.specs.Line.{line_of};
 ghost use Rattle.xsk_cli.specs.Steps.{ComesTo};
 ghost use Rattle.xsk_cli.specs.Words.{plan_of};
 
@@ -120,8 +121,8 @@ fn forward_words<R: Threads + Wait + Sync, B: Bay, G: Gate + Sync>(
     gate: &G,
 ) -> Result<Ended, Status>
     requires { NoneOpen (B.moment bay.old) }
-    ensures { ComesTo (EndsShown (ended_in result).outcome (B.moment bay.old) (B.moment bay.new) (ended_in result).status)
-        (planned_by (map string_bytes words.now)) (B.moment bay.old) (B.moment bay.new) (ended_in result).status }
+    ensures { ComesTo (λ work. ComesShown work (ended_in result).outcome) (planned_by (map string_bytes words.now)) (B.moment bay.old) (B.moment bay.new)
+        (ended_in result).status (line_of (ended_in result).status) }
 {
     let args = parse(alloc, "forward", &[&LAYOUT, &RUN, &THREADS], words)?;
     check_words(&args)?;

@@ -5,7 +5,7 @@ ghost use Rattle.xsk_args.specs.Words.{is_dashed};
 ghost use Rattle.xsk_socket.specs.Layout.{fault_of};
 ghost use Rattle.xsk_cli.specs.Format.{files_of};
 ghost use Rattle.xsk_cli.specs.Steps.{plan_in};
-ghost use Rattle.xsk_cli.specs.Words.{are_enough, counted, do_go_together, fault_in, files_counted, files_in, format_of, gen_plan, go_together, has_files, is_planned, layout_by, manner_of, most_of, plan_by, programs_of as programs_said, wanted_per_port, wire_of};
+ghost use Rattle.xsk_cli.specs.Words.{are_enough, counted, do_go_together, fault_in, files_counted, files_in, format_of, gen_plan, go_together, has_files, is_planned, layout_by, manner_of, most_of, plan_by, programs_of as programs_said, telling_of, wanted_per_port, wire_of};
 
 use crate::format::Format;
 use xsk_args::{Args, ArgsError, Program, ProgramList, parse_number};
@@ -15,13 +15,21 @@ use xsk_turns::{Manner, Wire};
 /// The most bytes of a journal.
 const MOST_OF_JOURNAL: usize = 67_108_864;
 
+/// What is told of a run in rounds besides.
+#[derive(Clone, Copy)]
+pub struct Telling {
+    /// The journal of all its calls: behind the report, or where it stalls behind what it stalls for.
+    pub journal: bool,
+    /// Why it stalls, behind the line of the stall.
+    pub why: bool,
+}
+
 /// What is made of the files that a command reads.
 #[derive(Drop)]
 pub enum Work {
     /// A run of the layout's workers over the packets of its ports, under programs and with a wire, in rounds with an order
     /// number. The manner says whether applications change items that they send, and when the layout's socket is closed. With a
-    /// number of the generator no files are read, and the packets are made. The journal follows the report where that was asked for.
-    /// The packets are read and written as files of the format.
+    /// number of the generator no files are read, and the packets are made. The packets are read and written as files of the format.
     Simulate {
         layout: Layout,
         programs: ProgramList,
@@ -29,7 +37,7 @@ pub enum Work {
         manner: Manner,
         order: u32,
         number: Option<u32>,
-        journal: bool,
+        telling: Telling,
         format: Format,
     },
     /// A capture of the packets that are made of a number.
@@ -93,7 +101,7 @@ impl<'p, 'w> Plan<'p, 'w> {
                 manner: manner_of(args),
                 order,
                 number,
-                journal: args.is_said("journal"),
+                telling: telling_of(args),
                 format,
             },
         })
@@ -138,6 +146,16 @@ fn manner_of(args: &Args<'_>) -> Manner
     Manner {
         mangle: args.number("mangle"),
         after: args.number("after").unwrap_or(0),
+    }
+}
+
+/// What is told of a run in rounds besides its figures.
+fn telling_of(args: &Args<'_>) -> Telling
+    ensures { result ≡ telling_of (under args.now) }
+{
+    Telling {
+        journal: args.is_said("journal"),
+        why: args.is_said("why"),
     }
 }
 

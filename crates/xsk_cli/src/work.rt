@@ -2,7 +2,7 @@
 ghost use Rattle.std.specs.Prelude.{◌≡◌, [], None, IfErr, IfOk, length, map};
 ghost use Rattle.xsk_io.specs.Bay.{NoneOpen};
 ghost use Rattle.xsk_cli.specs.Cause.{IsCaused, NeverFalls, NoOthers};
-ghost use Rattle.xsk_cli.specs.Ends.{ComesOf, Ends};
+ghost use Rattle.xsk_cli.specs.Ends.{ComesOf, Tells};
 ghost use Rattle.xsk_cli.specs.Streams.{HasLine, IsAtOnce, IsSilent, status_in};
 ghost use Rattle.xsk_cli.specs.Forward.{IsRun};
 ghost use Rattle.xsk_cli.specs.Judged.{AreShort};
@@ -43,7 +43,7 @@ pub(crate) fn do_without_run<B: Bay>(
     requires no_run { IsRun plan.now.work → ⊥ }
     requires closed { NoneOpen (B.moment bay.old) }
     ensures begun { IsAtOnce (status_in result.result) → ⊥ }
-    ensures ends { Ends (plan_in plan.now) (B.moment bay.old) (B.moment bay.new) (status_in result.result) }
+    ensures ends { Tells (plan_in plan.now) (B.moment bay.old) (B.moment bay.new) result.result }
     ensures silent { HasLine (status_in result.result) → IsSilent (B.moment bay.old) (B.moment bay.new) }
     ensures cause { IsCaused (B.moment bay.old).faults (B.moment bay.new).faults (status_in result.result) }
     ensures others { NoOthers (B.moment bay.old).faults (B.moment bay.new).faults (status_in result.result) }

@@ -13,7 +13,7 @@ use xsk_pcapng::BadPcapng;
 /// What to do where a run stalls.
 const STALLED: &str = "\
 xsk: nothing changed for 64 rounds, and some worker hadn't ended: a packet waits for frames or for room
-xsk: raise --frames, --rx or --comp, or say --wire drop
+xsk: raise --frames, --rx or --comp, or say --wire drop; --why tells what waits for what
 ";
 
 /// What is told of a status. It is nothing, where its line says all.

@@ -50,7 +50,7 @@ stands_first s kept setting h = record {
   frames = λ f low.
       let is : known_in kept.frames f ≡ record { place = Start; since = 0 } =
       ap (λ xs. known_in xs f) h.frames ∙ get_or-replicate s.geometry.frames f (record { place = Start; since = 0 }) (record { place = Start; since = 0 }) low in
-      subst (λ k. IsKnown s [] f k) (sym is) (record { mine = refl; given = refl; since = refl });
+      subst (λ k. IsKnown s [] f k) (sym is) (record { mine = refl; given = refl; since = refl; spot = refl });
   room = λ r has made. ap (λ (x : End). x.room) (first_end s kept r h has made);
   sure = λ r has made. ap (λ (x : End). x.sure) (first_end s kept r h has made);
   queues = λ r has made. subst (IsQueue s [] kept.frames r) (sym (first_queue s kept r h has made))

@@ -21,17 +21,18 @@ use Rattle.xsk_side.proofs.Lists.{number, times-append}
 use Rattle.xsk_side.proofs.Rings.{same_or, is_true, is_false}
 use Rattle.xsk_side.proofs.Frames.{IsFresh, times_fresh, frames_sound}
 use Rattle.xsk_side.proofs.Given.{some_or_none}
+use Rattle.xsk_judge.specs.declared.known.Spot.TheVariants.{Shown, On, Back}
 use Rattle.xsk_judge.specs.declared.known.Known.{Known}
 use Rattle.xsk_judge.specs.declared.known.End.{End}
 use Rattle.xsk_judge.specs.Kept.{Queue, Kept, is_as, known_in, place, end_at}
 use Rattle.xsk_judge.specs.Judging.{IsFor, again, given, is_latest, marked, peeked}
-use Rattle.xsk_judge.specs.Stands.{Line, IsKnown, StandsFor, calls_of, moves, since_of}
+use Rattle.xsk_judge.specs.Stands.{Line, IsKnown, StandsFor, calls_of, moves, since_of, spot_behind, spot_of}
 use Rattle.xsk_judge.proofs.Marking.{length-marked, marked-all, marked-none, inside_below}
 use Rattle.xsk_judge.proofs.Coming.{marked-one}
 
 -- ---- places of rings
 
-apart_made : (s : Setting) (r q : Ring) → is_made r ≡ true → is_made q ≡ true → HasRing s r → HasRing s q → place s r ≡ place s q → r ≡ q
+pub apart_made : (s : Setting) (r q : Ring) → is_made r ≡ true → is_made q ≡ true → HasRing s r → HasRing s q → place s r ≡ place s q → r ≡ q
 apart_made s (Fill d) (Fill e) m n h k p = ap Fill p
 apart_made s (Fill d) (Tx t) m n h k p = absurd (omega (arith, h, p))
 apart_made s (Tx t) (Fill e) m n h k p = absurd (omega (arith, k, p))
@@ -55,7 +56,7 @@ apart_unmade s (Rx d) (Tx e) m n h k p = absurd (cc)
 apart_unmade s (Fill d) q m n h k p = absurd (cc)
 apart_unmade s (Tx d) q m n h k p = absurd (cc)
 
-place_below : (s : Setting) (r : Ring) → HasRing s r → place s r < length s.pairs + length s.sockets
+pub place_below : (s : Setting) (r : Ring) → HasRing s r → place s r < length s.pairs + length s.sockets
 place_below s (Fill d) h = omega (arith, h)
 place_below s (Comp d) h = omega (arith, h)
 place_below s (Rx k) h = omega (arith, h.0)
@@ -67,7 +68,7 @@ no_end = record { room = 0; sure = 0; shown = 0 }
 abbrev pub no_queue : Queue
 no_queue = record { entries = []; held = 0; first = 0; size = 0; again = 0 }
 
-differs : (r q : Ring) → is_ring r q ≡ false → r ≡ q → ⊥
+pub differs : (r q : Ring) → is_ring r q ≡ false → r ≡ q → ⊥
 differs r q h e = both (is_ring r q) (subst (λ x. is_ring r x ≡ true) e (is_ring-self r)) h
   where
     both : (b : Bool) → b ≡ true → b ≡ false → ⊥
@@ -176,6 +177,7 @@ known_same s lines line call f known h a b c = record {
   mine = h.mine ∙ sym a;
   given = h.given ∙ sym b;
   since = h.since ∙ sym (is_false (moves s f (calls_of lines) call) line (since_of s f lines) c);
+  spot = h.spot ∙ sym (is_false (moves s f (calls_of lines) call) (spot_behind call (spot_of s f lines)) (spot_of s f lines) c);
 }
 
 pub none_stands : (s : Setting) (f : ℕ) (es : List XdpDesc) → times s f es ≡ 0 → stands s f es ≡ false
@@ -201,6 +203,7 @@ known_submit s kept lines line r es f for now low = ⊎_elim
       mine = sym (is_true (stands s f es) false (has_frame s f (calls_of lines)) st);
       given = sym (is_true (stands s f es) (Some r) (given_of s (calls_of lines) f) st);
       since = sym (is_true (stands s f es) line (since_of s f lines) st);
+      spot = sym (is_true (stands s f es) (On r) (spot_of s f lines) st);
     }))
     (λ (none : times s f es ≡ 0).
     let st = none_stands s f es none in
@@ -223,6 +226,7 @@ known_peek s kept lines line r n es known new first at next f for now both low =
       mine = sym (is_true (stands s f es) true (has_frame s f (calls_of lines)) st);
       given = sym (is_true (stands s f es) None (given_of s (calls_of lines) f) st);
       since = sym (is_true (stands s f es) line (since_of s f lines) st);
+      spot = sym (is_true (stands s f es) (Shown r) (spot_of s f lines) st);
     } in at_j in
     ⊎_elim
     (λ (some : 1 ≤ times s f known).
@@ -256,6 +260,7 @@ known_cancel s kept lines line r n f for now low given =
       mine = sym (is_true (stands s f es) false (has_frame s f (calls_of lines)) st);
       given = ⊎_elim (λ (g : given_of s (calls_of lines) f ≡ None). sym g) (λ (no : times s f es ≡ 0). absurd (omega (arith, some, no))) given;
       since = sym (is_true (stands s f es) line (since_of s f lines) st);
+      spot = sym (is_true (stands s f es) (Back r) (spot_of s f lines) st);
     }))
     (λ (none : times s f es ≡ 0).
     let st = none_stands s f es none in

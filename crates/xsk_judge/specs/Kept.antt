@@ -8,6 +8,8 @@ use Rattle.xsk_model.specs.Rings.{is_ring}
 use Rattle.xsk_side.specs.Setting.{Setting}
 use Rattle.xsk_judge.specs.declared.known.Place.{Place}
 use Rattle.xsk_judge.specs.declared.known.Place.TheVariants.{Start, Peeked, Given, Again}
+use Rattle.xsk_judge.specs.declared.known.Spot.{Spot}
+use Rattle.xsk_judge.specs.declared.known.Spot.TheVariants.{First, Shown, On, Back}
 use Rattle.xsk_judge.specs.declared.known.Known.{Known}
 use Rattle.xsk_judge.specs.declared.known.End.{End}
 
@@ -41,6 +43,20 @@ given_by Start = None
 given_by (Peeked r i) = None
 given_by (Given r) = Some r
 given_by (Again r) = None
+
+-- the place without the entry's number
+abbrev pub spot_by : Place → Spot
+spot_by Start = First
+spot_by (Peeked r i) = Shown r
+spot_by (Given r) = On r
+spot_by (Again r) = Back r
+
+abbrev pub is_spot : Spot → Spot → Bool
+is_spot First First = true
+is_spot (Shown r) (Shown q) = is_ring r q
+is_spot (On r) (On q) = is_ring r q
+is_spot (Back r) (Back q) = is_ring r q
+is_spot _ _ = false
 
 -- whether the program has the frame as this entry
 abbrev pub is_as : Ring → ℕ → Place → Bool

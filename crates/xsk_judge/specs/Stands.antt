@@ -13,8 +13,10 @@ use Rattle.xsk_side.specs.Local.{sure_of, back_of, given_of, strays_given}
 use Rattle.xsk_side.specs.declared.call.Party.TheVariants.{Program}
 use Rattle.xsk_side.specs.declared.call.Call.{Call}
 use Rattle.xsk_side.specs.declared.call.Call.TheVariants.{Reserve, Free, Submit, Peek, Release, Cancel}
-use Rattle.xsk_judge.specs.Kept.{Queue, Kept, is_mine, given_by, numbered, known_in, end_at, queue_at, strays_at}
+use Rattle.xsk_judge.specs.Kept.{Queue, Kept, is_mine, given_by, numbered, spot_by, known_in, end_at, queue_at, strays_at}
 use Rattle.xsk_judge.specs.Judging.{is_latest, IsSized}
+use Rattle.xsk_judge.specs.declared.known.Spot.{Spot}
+use Rattle.xsk_judge.specs.declared.known.Spot.TheVariants.{First, Shown, On, Back}
 use Rattle.xsk_judge.specs.declared.known.Known.{Known}
 use Rattle.xsk_judge.specs.declared.why.Why.{Why}
 use Rattle.xsk_judge.specs.declared.why.Why.TheVariants.{Rule, Kernel, TooMany}
@@ -43,10 +45,25 @@ abbrev pub since_of : Setting → ℕ → List Line → ℕ
 since_of s f [] = 0
 since_of s f (l ∷ lines) = if moves s f (calls_of lines) l.call then l.line else since_of s f lines
 
+-- where a call puts the frames that it moves
+abbrev pub spot_behind : Call → Spot → Spot
+spot_behind (Reserve r n answer) spot = spot
+spot_behind (Free r n places) spot = spot
+spot_behind (Submit r entries) spot = On r
+spot_behind (Peek r n entries) spot = Shown r
+spot_behind (Release r n) spot = spot
+spot_behind (Cancel r n) spot = Back r
+
+-- where a frame is
+abbrev pub spot_of : Setting → ℕ → List Line → Spot
+spot_of s f [] = First
+spot_of s f (l ∷ lines) = if moves s f (calls_of lines) l.call then spot_behind l.call (spot_of s f lines) else spot_of s f lines
+
 pub record IsKnown (s : Setting) (lines : List Line) (f : ℕ) (known : Known) : Type 0 where
   pub mine : is_mine known.place ≡ has_frame s f (calls_of lines)
   pub given : given_by known.place ≡ given_of s (calls_of lines) f
   pub since : known.since ≡ since_of s f lines
+  pub spot : spot_by known.place ≡ spot_of s f lines
 
 pub record IsQueue (s : Setting) (calls : List Call) (frames : List Known) (r : Ring) (queue : Queue) : Type 0 where
   pub entries : queue.entries ≡ map entry_of (held_of s r calls) ++ back_of s r calls

@@ -2,10 +2,11 @@
 ghost use Rattle.std.specs.Prelude.{◌≡◌, ◌+◌, ◌-◌, ◌^◌, ◌<◌, ◌≤◌, ◌↔◌, ◌⊎◌, ℕ, min, [], IfOk, IfErr, IfSome, IsNone, IsTrue, List, ◌∷◌, false, length, take};
 ghost use Rattle.xsk_side.specs.Setting.{HasRing};
 ghost use Rattle.xsk_side.specs.Object.{is_made as made};
+ghost use Rattle.xsk_side.specs.Own.{held_of, room_of};
 ghost use Rattle.xsk_side.specs.Local.{FitsAnswer};
 ghost use Rattle.xsk_side.specs.declared.call.Call.TheVariants.{Reserve, Free, Submit, Peek, Release, Cancel};
 ghost use Rattle.xsk_judge.specs.Kept.{place, queue_at, standing};
-ghost use Rattle.xsk_judge.specs.Stands.{Line, IsReady, IsKnown, IsWhy, StandsFor};
+ghost use Rattle.xsk_judge.specs.Stands.{Line, IsReady, IsKnown, IsWhy, StandsFor, calls_of};
 ghost use Rattle.xsk_judge.specs.Judging.{IsFor, IsRule, IsDenial, IsReason, MayCall, MayAnswer, Agrees, CanCome, after, come_after, held_after, reserved, told_free};
 
 use crate::known::{End, Known, Place};
@@ -82,6 +83,34 @@ impl Judge {
         ensures { (lines : List Line) → StandsFor setting.now self.now lines → IsKnown setting.now lines frame result }
     {
         self.frames[frame as usize]
+    }
+
+    /// How many places of FILL or TX are reserved and not filled.
+    pub fn room(&self, setting: &Setting, ring: Ring) -> u32
+        requires ready { IsReady setting.now self.now }
+        requires ring { HasRing setting.now ring }
+        requires side { IsTrue (made ring) }
+        ensures { (lines : List Line) → StandsFor setting.now self.now lines → result ≡ room_of ring (calls_of lines) }
+    {
+        match ring {
+            Ring::Fill(pair) => self.ends[pair as usize].room,
+            Ring::Tx(socket) => self.ends[setting.pairs().len() + socket as usize].room,
+            Ring::Comp(_) | Ring::Rx(_) => unreachable!(),
+        }
+    }
+
+    /// How many entries of COMPLETION or RX are peeked and not released.
+    pub fn held(&self, setting: &Setting, ring: Ring) -> u32
+        requires ready { IsReady setting.now self.now }
+        requires ring { HasRing setting.now ring }
+        requires side { made ring ≡ false }
+        ensures { (lines : List Line) → StandsFor setting.now self.now lines → result ≡ length (held_of setting.now ring (calls_of lines)) }
+    {
+        match ring {
+            Ring::Comp(pair) => self.queues[pair as usize].held(),
+            Ring::Rx(socket) => self.queues[setting.pairs().len() + socket as usize].held(),
+            Ring::Fill(_) | Ring::Tx(_) => unreachable!(),
+        }
     }
 
     fn judge(&mut self, setting: &Setting, line: u64, call: &Call) -> Result<(), Why>

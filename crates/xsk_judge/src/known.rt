@@ -1,6 +1,6 @@
 //! What is known of a frame, and of the places of FILL and TX.
 ghost use Rattle.std.specs.Prelude.{◌≡◌};
-ghost use Rattle.xsk_judge.specs.Kept.{is_as, is_mine};
+ghost use Rattle.xsk_judge.specs.Kept.{is_as, is_mine, is_spot, spot_by};
 ghost use Rattle.xsk_model.specs.Rings.{is_ring};
 
 use xsk_model::Ring;
@@ -18,7 +18,47 @@ pub enum Place {
     Again(Ring),
 }
 
+/// Where a frame is, but for the number of the entry with which it came.
+#[derive(Clone, Copy, Debug, PartialEq, Eq)]
+pub enum Spot {
+    /// With the program, from the start.
+    First,
+    /// With the program, since this ring of RX or COMPLETION showed it.
+    Shown(Ring),
+    /// Submitted on this ring of FILL or TX.
+    On(Ring),
+    /// In this ring of RX or COMPLETION again, since a Cancel.
+    Back(Ring),
+}
+
+impl Spot {
+    /// Whether both are the same.
+    pub fn is(self, other: Spot) -> bool
+        ensures { result ≡ is_spot self other }
+    {
+        match (self, other) {
+            (Spot::First, Spot::First) => true,
+            (Spot::Shown(a), Spot::Shown(b)) => is_same(a, b),
+            (Spot::On(a), Spot::On(b)) => is_same(a, b),
+            (Spot::Back(a), Spot::Back(b)) => is_same(a, b),
+            _ => false,
+        }
+    }
+}
+
 impl Place {
+    /// The place without the entry's number.
+    pub fn spot(self) -> Spot
+        ensures { result ≡ spot_by self }
+    {
+        match self {
+            Place::Start => Spot::First,
+            Place::Peeked(ring, _) => Spot::Shown(ring),
+            Place::Given(ring) => Spot::On(ring),
+            Place::Again(ring) => Spot::Back(ring),
+        }
+    }
+
     /// Whether the program has the frame.
     pub fn is_mine(self) -> bool
         ensures { result ≡ is_mine self }

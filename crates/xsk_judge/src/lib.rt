@@ -9,5 +9,5 @@ mod queue;
 mod why;
 
 pub use judge::Judge;
-pub use known::{Known, Place};
+pub use known::{Known, Place, Spot};
 pub use why::{Denial, Rule, Why};

@@ -30,6 +30,7 @@ use Rattle.xsk_machine.specs.Sent.{SentShown}
 use Rattle.xsk_sim.specs.Shown.{Shown, IsShownBy, shown_by}
 use Rattle.xsk_turns.specs.Hands.{IsWholeRunOf}
 use Rattle.xsk_turns.specs.Workers.{Setting, IsWorkerRun, IsWholeRun, input_of}
+use Rattle.xsk_sim.specs.Left.{HasStalledOn}
 use Rattle.xsk_sim.specs.Runs.{HasEnded, HasStalled, NeverStill}
 use Rattle.xsk_sim.specs.Stalls.{StandStill}
 use Rattle.xsk_machine.specs.Acts.{IsActAfter, DriverStands, sent_of}
@@ -221,7 +222,7 @@ ended_run s frames order count w object sent classes calls wire mangled regular 
     (run, has, record { is = record { pairs = refl; lists = refl; figures = refl }; log = λ keeps. sym (had.seated.run.log keeps) })
 
 -- a run that has stalled
-pub stalled_run : (s : Setting) (frames : List Frame) (order round : ℕ) (w : Workers) (object : Seen) → (had : HadRounds s frames order (round + 1) w object) → (HaveEnded w → ⊥)
+stalled_run : (s : Setting) (frames : List Frame) (order round : ℕ) (w : Workers) (object : Seen) → (had : HadRounds s frames order (round + 1) w object) → (HaveEnded w → ⊥)
     → round ≤ 18446744073709551615 → StandStill s frames order 64 (round + 1) had.history → NeverStill s frames order round → HasStalled s frames order round
 stalled_run s frames order round w object had going few still first =
     let some = open_run s frames had.history w object had.seated going in
@@ -237,6 +238,12 @@ stalled_run s frames order round w object had going few still first =
       still = still;
       first = first;
     }
+
+-- with the object on which it ran
+pub stalled_on : (s : Setting) (frames : List Frame) (order round : ℕ) (w : Workers) (object : Seen) → (had : HadRounds s frames order (round + 1) w object) → (HaveEnded w → ⊥)
+    → round ≤ 18446744073709551615 → StandStill s frames order 64 (round + 1) had.history → NeverStill s frames order round → HasStalledOn s frames order round object
+unfolding stalled_run
+stalled_on s frames order round w object had going few still first = record { stalled = stalled_run s frames order round w object had going few still first; run = had.seated.run }
 
 -- a run whose log was kept
 pub logged_ended : (s : Setting) (frames : List Frame) (order : ℕ) (engine : Engine) (sent : SentShown) (run : Shown) → HasEnded s frames order run → IsShownBy (logged_seen engine) sent run

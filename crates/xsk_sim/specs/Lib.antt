@@ -1,3 +1,4 @@
+pub mod Left
 pub mod Order
 pub mod Rounds
 pub mod Runs

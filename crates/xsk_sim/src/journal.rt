@@ -3,13 +3,16 @@ ghost use Rattle.std.specs.Prelude.{◌≡◌, ◌<◌, ℕ, List, [], ◌∷◌
 ghost use Rattle.std.specs.Fmt.{decimal};
 ghost use Rattle.std.specs.List.{slice_index_or};
 ghost use Rattle.xsk_model.specs.Entry.{Entry};
+ghost use Rattle.xsk_log.specs.Left.{left_of};
+ghost use Rattle.xsk_log.specs.Log.{entries_of};
 ghost use Rattle.xsk_sim.specs.Counts.{AreCounts};
 ghost use Rattle.xsk_sim.specs.Journal.{journal_of, round_of};
 
 use crate::simulation::Run;
 use itoa::Buffer;
 use std::alloc::Global;
-use xsk_log::LineBuffer;
+use xsk_log::{LineBuffer, Lines, Log};
+use xsk_plain::Plain;
 use xsk_umem::OutOfMemory;
 
 /// The journal of a run: for each call, in order, the line `<round> <who> <call> -> <reply>` with a line feed. Rounds are
@@ -26,10 +29,34 @@ pub fn journal_text(alloc: Global, run: &Run) -> Result<Vec<u8>, OutOfMemory>
 pub fn append_journal(alloc: Global, text: &mut Vec<u8>, run: &Run) -> Result<(), OutOfMemory>
     ensures { OnOk result (text.new.items ≡ text.old.items ++ journal_of run.now.pairs run.now.log) }
 {
+    append_lines(alloc, text, run.log(), run.lines())
+}
+
+/// Puts the journal of all calls on an object behind a text, as that of a run on it.
+pub fn append_journal_so_far(
+    alloc: Global,
+    text: &mut Vec<u8>,
+    object: &Plain,
+) -> Result<(), OutOfMemory>
+    ensures { OnOk result (text.new.items ≡ text.old.items ++ journal_of (length object.now.config.pairs) object.now.log) }
+{
+    append_lines(alloc, text, object.log(), object.lines())
+}
+
+/// Puts the journal of a log behind a text, over all of whose entries the lines go.
+fn append_lines(
+    alloc: Global,
+    text: &mut Vec<u8>,
+    log: &Log,
+    lines: Lines<'_>,
+) -> Result<(), OutOfMemory>
+    requires { left_of lines ≡ entries_of log.now }
+    ensures { OnOk result (text.new.items ≡ text.old.items ++ journal_of lines.entry.pairs (entries_of log.now)) }
+{
     let mut counts = Vec::new(alloc);
     let mut line = LineBuffer::new();
-    let mut lines = run.lines();
-    for _call in 0..run.log().len() {
+    let mut lines = lines;
+    for _call in 0..log.len() {
         let Some(who) = lines.write_next(&mut line) else {
             return Ok(());
         };

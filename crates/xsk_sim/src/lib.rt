@@ -9,8 +9,8 @@ mod seat;
 mod server;
 mod simulation;
 
-pub use journal::{append_journal, journal_text};
-pub use simulation::{Run, SimError, simulate, simulate_unlogged};
+pub use journal::{append_journal, append_journal_so_far, journal_text};
+pub use simulation::{Run, SimError, Unended, simulate, simulate_unlogged, simulate_with_object};
 pub use xsk_driver::Wire;
 pub use xsk_machine::Figures;
 pub use xsk_turns::Manner;

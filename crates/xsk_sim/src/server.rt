@@ -1,5 +1,5 @@
 //! The object that serves the workers' calls, with a log of them or without.
-ghost use Rattle.std.specs.Prelude.{◌≡◌, ◌*◌, ◌<◌, ◌≤◌, OnOk, IfOk};
+ghost use Rattle.std.specs.Prelude.{◌≡◌, ◌+◌, ◌*◌, ◌<◌, ◌≤◌, ◌⊎◌, IsTrue, OnOk, OnErr, IfOk};
 ghost use Rattle.xsk_umem.specs.Geometry.{IsGeometry};
 ghost use Rattle.xsk_model.specs.Asks.{joined_call, joined_reply, HasAsked, HasAnswered};
 ghost use Rattle.xsk_model.specs.Config.{IsLawful};
@@ -32,11 +32,12 @@ pub(crate) trait Server {
     fn calls(&self) -> u64
         ensures { result ≡ (seen self.now).engine.calls };
 
-    /// Makes room for so many further calls, which are fewer than 32,768.
+    /// Makes room for so many further calls, which are fewer than 32,768. Where no log is kept it fails only if 2^64 calls would be made.
     fn make_room(&mut self, calls: u32) -> Result<(), OutOfMemory>
         requires few { calls < 32768 }
         ensures entries { OnOk result (calls ≤ (seen self.new).engine.spare_entries) }
         ensures bytes { OnOk result (calls * most_payload ≤ (seen self.new).engine.spare_bytes) }
+        ensures refused { OnErr result (IsTrue (seen self.old).keeps ⊎ (18446744073709551616 ≤ (seen self.old).engine.calls + calls)) }
         ensures same { OnlyRoom (seen self.old) (seen self.new) };
 
     /// Makes the call for the caller, as `Plain::serve` does. It must be one that can be performed, and there must be room

@@ -17,7 +17,10 @@ ghost use Rattle.xsk_driver.specs.Sent.{IsShort};
 ghost use Rattle.xsk_sim.specs.Shown.{HasShortPackets, IsSentBy, IsShownBy, Shown, packets_in};
 ghost use Rattle.xsk_prog.specs.Chain.{AllObey, SamePrograms};
 ghost use Rattle.xsk_turns.specs.Workers.{Setting, AreGiven};
-ghost use Rattle.xsk_sim.specs.Runs.{HasEnded, HasStalled, NeverStill, HasEndedUnder, HasStalledUnder};
+ghost use Rattle.xsk_sim.specs.Runs.{HasEnded, NeverStill, HasEndedUnder, HasStalledUnder};
+ghost use Rattle.xsk_sim.specs.Left.{HasStalledOn, HasStalledOnUnder};
+ghost use Rattle.xsk_sim.specs.Server.{logged_seen};
+ghost use Rattle.xsk_plain.specs.Engine.{Engine as AnEngine};
 ghost use Rattle.xsk_sim.specs.Stalls.{StandStill};
 ghost use Rattle.xsk_still.specs.Still.{HasAmpleRoom};
 ghost use Rattle.xsk_sim.specs.Seats.{AreSeated, AreReady, AreSet, HadRounds, HaveEnded, kept_lists, kept_figures};
@@ -59,6 +62,15 @@ impl From<OutOfMemory> for SimError {
     fn from(_error: OutOfMemory) -> SimError {
         SimError::OutOfMemory
     }
+}
+
+/// Why a simulation gave no run, with the object on which it stalled, as all calls left it.
+#[derive(Drop)]
+pub enum Unended<S: Drop> {
+    /// As `SimError::Stalled` has it.
+    Stalled { round: u64, object: S },
+    /// Memory couldn't be had.
+    OutOfMemory,
 }
 
 /// A run that has ended: the log of all calls, what each driver sent, and the figures.
@@ -169,6 +181,38 @@ pub fn simulate<F: Fn(&[u8], u32) -> Verdict>(
         → HasStalledUnder F.Fn chain.old chain.new wire manner config packets.now frames.items order round }
     ensures goes_on { HasAmpleRoom config → config.closing ≡ None → manner ≡ plain_manner → (round : ℕ) → result ≡ Err (SimError.Stalled round) → ⊥ }
 {
+    match simulate_with_object(alloc, config, frames, packets, chain, wire, order, manner) {
+        Ok(run) => Ok(run),
+        Err(Unended::Stalled { round, .. }) => Err(SimError::Stalled { round }),
+        Err(Unended::OutOfMemory) => Err(SimError::OutOfMemory),
+    }
+}
+
+/// The same run. Where it stalls, the object comes back as all calls left it, with its log.
+#[allow(clippy::too_many_arguments)]
+pub fn simulate_with_object<F: Fn(&[u8], u32) -> Verdict>(
+    alloc: Global,
+    config: Config,
+    frames: Frames,
+    packets: &[PacketList],
+    chain: &mut Chain<F>,
+    wire: Wire,
+    order: u32,
+    manner: Manner,
+) -> Result<Run, Unended<Plain>>
+    requires regular { IsRegular config }
+    requires frames { AreFrames config.geometry frames.items }
+    requires lists { length packets.now ≡ config.ports }
+    requires short { All HasShortPackets packets.now }
+    requires obeys { AllObey F.Fn chain.old }
+    ensures same { SamePrograms chain.old chain.new }
+    ensures obeys { AllObey F.Fn chain.new }
+    ensures pairs { IfOk result (λ run. run.pairs ≡ length config.pairs) }
+    ensures ended { IfOk result (HasEndedUnder F.Fn chain.old chain.new wire manner config packets.now frames.items order) }
+    ensures stalled { (round : ℕ) (plain : AnEngine) → result ≡ Err (Unended.Stalled round plain)
+        → HasStalledOnUnder F.Fn chain.old chain.new wire manner config packets.now frames.items order round (logged_seen plain) }
+    ensures goes_on { HasAmpleRoom config → config.closing ≡ None → manner ≡ plain_manner → (round : ℕ) (plain : AnEngine) → result ≡ Err (Unended.Stalled round plain) → ⊥ }
+{
     let (plain, sent) = run_on::<F, Plain>(
         alloc, config, frames, packets, chain, wire, order, manner,
     )?;
@@ -200,10 +244,11 @@ pub fn simulate_unlogged<F: Fn(&[u8], u32) -> Verdict>(
         → HasStalledUnder F.Fn chain.old chain.new wire manner config packets.now frames.items order round }
     ensures goes_on { HasAmpleRoom config → config.closing ≡ None → manner ≡ plain_manner → (round : ℕ) → result ≡ Err (SimError.Stalled round) → ⊥ }
 {
-    let (_server, sent) = run_on::<F, Unlogged>(
-        alloc, config, frames, packets, chain, wire, order, manner,
-    )?;
-    Ok(sent)
+    match run_on::<F, Unlogged>(alloc, config, frames, packets, chain, wire, order, manner) {
+        Ok((_object, sent)) => Ok(sent),
+        Err(Unended::Stalled { round, .. }) => Err(SimError::Stalled { round }),
+        Err(Unended::OutOfMemory) => Err(SimError::OutOfMemory),
+    }
 }
 
 /// The run of `simulate` on an object with or without a log.
@@ -217,7 +262,7 @@ fn run_on<F: Fn(&[u8], u32) -> Verdict, S: Server + Drop>(
     wire: Wire,
     order: u32,
     manner: Manner,
-) -> Result<(S, Sent), SimError>
+) -> Result<(S, Sent), Unended<S>>
     requires regular { IsRegular config }
     requires frames { AreFrames config.geometry frames.items }
     requires lists { length packets.now ≡ config.ports }
@@ -227,18 +272,18 @@ fn run_on<F: Fn(&[u8], u32) -> Verdict, S: Server + Drop>(
     ensures obeys { AllObey F.Fn chain.new }
     ensures pairs { IfOk result (λ ran. (length ran.1.lists ≡ length config.pairs) × ((S.seen ran.0).engine.config ≡ config)) }
     ensures ended { IfOk result (λ ran. (run : Shown) × HasEndedUnder F.Fn chain.old chain.new wire manner config packets.now frames.items order run × IsShownBy (S.seen ran.0) ran.1 run) }
-    ensures stalled { (round : ℕ) → result ≡ Err (SimError.Stalled round)
-        → HasStalledUnder F.Fn chain.old chain.new wire manner config packets.now frames.items order round }
-    ensures goes_on { HasAmpleRoom config → config.closing ≡ None → manner ≡ plain_manner → (round : ℕ) → result ≡ Err (SimError.Stalled round) → ⊥ }
+    ensures stalled { (round : ℕ) (object : S) → result ≡ Err (Unended.Stalled round object)
+        → HasStalledOnUnder F.Fn chain.old chain.new wire manner config packets.now frames.items order round (S.seen object) }
+    ensures goes_on { HasAmpleRoom config → config.closing ≡ None → manner ≡ plain_manner → (round : ℕ) (object : S) → result ≡ Err (Unended.Stalled round object) → ⊥ }
 {
     let Ok(shared) = config.copy(alloc) else {
-        return Err(SimError::OutOfMemory);
+        return Err(Unended::OutOfMemory);
     };
     let Ok(inputs) = Inputs::split(alloc, &shared, packets) else {
-        return Err(SimError::OutOfMemory);
+        return Err(Unended::OutOfMemory);
     };
     let Ok(workers) = all_workers(alloc, &shared, packets, &inputs, chain, wire, manner) else {
-        return Err(SimError::OutOfMemory);
+        return Err(Unended::OutOfMemory);
     };
     let _geometry = shared.geometry();
     run_workers::<S>(
@@ -290,21 +335,27 @@ fn run_workers<S: Server + Drop>(
     wire: Wire,
     manner: Manner,
     order: Order,
-) -> Result<(S, Sent), SimError>
+) -> Result<(S, Sent), Unended<S>>
     requires opened { IsOpened config frames.items }
     requires set { (s : Setting) × (s.config ≡ config) × AreSet s workers }
     ensures pairs { IfOk result (λ ran. (length ran.1.lists ≡ length config.pairs) × ((S.seen ran.0).engine.config ≡ config)) }
     ensures ended { (s : Setting) → s.config ≡ config → IsRegular s.config → AreSet s workers.entry
         → classes ≡ classes_of s.config → wire ≡ s.wire → manner ≡ s.manner
         → IfOk result (λ ran. (run : Shown) × HasEnded s frames.items order.number run × IsShownBy (S.seen ran.0) ran.1 run) }
-    ensures stalled { (s : Setting) (round : ℕ) → s.config ≡ config → AreSet s workers.entry
-        → result ≡ Err (SimError.Stalled round) → HasStalled s frames.items order.number round }
+    ensures stalled { (s : Setting) (round : ℕ) (object : S) → s.config ≡ config → AreSet s workers.entry
+        → result ≡ Err (Unended.Stalled round object) → HasStalledOn s frames.items order.number round (S.seen object) }
 {
     let Ok(mut server) = S::open(alloc, config, frames) else {
-        return Err(SimError::OutOfMemory);
+        return Err(Unended::OutOfMemory);
     };
-    let sent = run_to_end(alloc, workers, &mut server, classes, wire, manner, order)?;
-    Ok((server, sent))
+    match run_to_end(alloc, workers, &mut server, classes, wire, manner, order) {
+        Ok(sent) => Ok((server, sent)),
+        Err(SimError::Stalled { round }) => Err(Unended::Stalled {
+            round,
+            object: server,
+        }),
+        Err(SimError::OutOfMemory) => Err(Unended::OutOfMemory),
+    }
 }
 
 /// Makes rounds until all workers have ended, and collects what the drivers sent and their figures.
@@ -325,7 +376,7 @@ fn run_to_end<S: Server>(
         → classes ≡ classes_of s.config → wire ≡ s.wire → manner ≡ s.manner
         → IfOk result (λ sent. (run : Shown) × HasEnded s frames order.number run × IsShownBy (S.seen server.new) sent run) }
     ensures stalled { (s : Setting) (frames : List Frame) (round : ℕ) → AreSeated s frames [] workers.entry (S.seen server.old)
-        → result ≡ Err (SimError.Stalled round) → HasStalled s frames order.number round }
+        → result ≡ Err (SimError.Stalled round) → HasStalledOn s frames order.number round (S.seen server.new) }
 {
     let mut workers = workers;
     make_rounds(&mut workers, server, order)?;

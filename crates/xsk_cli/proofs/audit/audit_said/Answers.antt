@@ -5,7 +5,7 @@ use Rattle.xsk_socket.specs.Layout.{fault_of}
 use Rattle.xsk_socket.specs.declared.layout.Layout.{Layout}
 use Rattle.xsk_cli.specs.Steps.{Comes}
 use Rattle.xsk_io.specs.Bay.{Moment}
-use Rattle.xsk_cli.specs.Streams.{status_in}
+use Rattle.xsk_cli.specs.declared.failure.Refusal.TheVariants.{Bare}
 use Rattle.xsk_cli.specs.Words.{Plan, audit_plan_by, files_in, layout_by, without_files}
 use Rattle.xsk_cli.specs.declared.status.Status.TheVariants.{Refused}
 use Rattle.xsk_cli.specs.declared.words.Work.TheVariants.{Audit}
@@ -27,7 +27,7 @@ returns-in_err-layout g c =
     let file : Text = c.in-Some.file.now in
     let unlawful = c.in_err-layout.field-0.0 in
     let fault : fault_of (without_files (layout_by said)) ≡ Some unlawful = search rules in
-    comes_as c.from_residual.result (Refused unlawful) planned now now (search rules)
+    comes_as c.from_residual.result (Bare (Refused unlawful)) planned now now (search rules)
     (refused_comes planned now c.requires (one_plan said file) unlawful (ap (audit_plan_by said) c.in-Some.ensures.one) fault)
 
 pub returns : goal.returns
@@ -38,4 +38,4 @@ returns g c =
     let file : Text = c.in-Some.file.now in
     let planned : audit_plan_by said (files_in said) ≡ Some (record { inputs = file ∷ []; outputs = []; work = Audit c.in_ok-layout.layout }) =
     ap (audit_plan_by said) c.in-Some.ensures.one ∙ ap (λ (l : Layout). Some (record { inputs = file ∷ []; outputs = []; work = Audit l })) (sym c.in_ok-layout.ensures.layout) in
-    subst (λ (o : Option Plan). Comes o old new (status_in c.audit_file.result)) (sym planned) c.audit_file.ensures
+    subst (λ (o : Option Plan). Comes o old new c.audit_file.result) (sym planned) c.audit_file.ensures

@@ -6,7 +6,7 @@ use Rattle.xsk_cli.specs.Format.{most_input}
 use Rattle.xsk_cli.specs.Steps.{IsBeforeRun, IsFileRefusal, IsUntaken, lists_in}
 use Rattle.xsk_cli.specs.declared.format.Format.TheVariants.{Pcapng}
 use Rattle.xsk_cli.specs.declared.failure.RunFailure.{RunFailure}
-use Rattle.xsk_cli.specs.declared.failure.RunFailure.TheVariants.{BadCapture as Bad, TooMuch as Excessive, Stalled as Stalls, OutOfMemory as NoMemory, NotLegal as Breaks, BadPcapng as BadFile}
+use Rattle.xsk_cli.specs.declared.failure.RunFailure.TheVariants.{BadCapture as Bad, TooMuch as Excessive, Stalled as Stalls, Explained, OutOfMemory as NoMemory, NotLegal as Breaks, BadPcapng as BadFile}
 use Rattle.xsk_cli.proofs.Counting.{err_is}
 use Rattle.xsk_cli.proofs.Filing.{count_file, file_small}
 use Rattle.xsk_cli.proofs.Judging.{short_all}
@@ -20,6 +20,7 @@ file_untaken ports inputs NoMemory one short h = (tt, tt)
 file_untaken ports inputs (Bad at cause) one short h = absurd h
 file_untaken ports inputs (Excessive excess) one short h = absurd h
 file_untaken ports inputs (Stalls round) one short h = absurd h
+file_untaken ports inputs (Explained round text) one short h = absurd h
 file_untaken ports inputs (Breaks line) one short h = absurd h
 
 pub check_limits-requires-clause-few : goal.check_limits-requires-clause-few

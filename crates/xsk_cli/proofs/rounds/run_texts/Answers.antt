@@ -56,7 +56,7 @@ returns-clause-made c =
     let outputs = c.in_ok-outputs.outputs in
     let written : outputs_in left.lists outputs ≡ outputs_of c.args.format (λ port. take layout.queues (drop (port * layout.queues) left.lists)) (range_with_len 0 layout.ports) =
     subst (λ (ls : List (List (List ℕ))). outputs_in ls outputs ≡ outputs_of c.args.format (λ port. take layout.queues (drop (port * layout.queues) ls)) (range_with_len 0 layout.ports)) c.lists.ensures.lists c.in_ok-outputs.ensures.outputs in
-    texts_of layout c.args.programs.now c.args.wire c.args.manner c.args.order (lists_in c.args.lists.items) c.requires.accepted run ended pairs c.args.format c.args.journal
+    texts_of layout c.args.programs.now c.args.wire c.args.manner c.args.order (lists_in c.args.lists.items) c.requires.accepted run ended pairs c.args.format c.args.telling.journal
     (written_in left.lists (record { outputs = outputs; report = c.in_ok-left.report }))
     (written ∙ ap (λ (ls : List (List (List ℕ))). outputs_of c.args.format (λ port. take layout.queues (drop (port * layout.queues) ls)) (range_with_len 0 layout.ports)) (sym by.lists))
     (by.pairs ∙ c.in_ok-left.ensures.pairs) ran.3

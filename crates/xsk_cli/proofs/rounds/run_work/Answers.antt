@@ -9,4 +9,4 @@ pub returns-clause-failed : goal.returns-clause-failed
 returns-clause-failed c =
     let work = c.in-Simulate in
     subst (λ (w : Work). IfErr c.run_texts.result (FailsMaking w (lists_in c.args.lists.items))) (sym work.is)
-    (run_makes work.layout work.programs work.wire work.manner work.order work.number work.journal work.format (lists_in c.args.lists.items) c.run_texts.result c.run_texts.ensures.failed)
+    (run_makes work.layout work.programs work.wire work.manner work.order work.number work.telling work.format (lists_in c.args.lists.items) c.run_texts.result c.run_texts.ensures.failed)

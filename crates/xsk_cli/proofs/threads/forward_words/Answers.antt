@@ -3,10 +3,14 @@ use Rattle.std.specs.Prelude.{Err, option_and_then}
 use Rattle.xsk_args.specs.Words.{Text}
 use Rattle.xsk_args.specs.Meaning.{meaning, under}
 use Rattle.xsk_socket.specs.Layout.{fault_of}
-use Rattle.xsk_cli.specs.Forward.{EndsShown, forward_options, forward_plan}
+use Rattle.xsk_cli.specs.Ends.{TellsBy}
+use Rattle.xsk_cli.specs.Forward.{ComesShown, forward_options, forward_plan}
+use Rattle.xsk_cli.specs.Line.{line_of}
+use Rattle.xsk_cli.specs.declared.words.Work.{Work}
+use Rattle.xsk_cli.proofs.Telling.{told_shown}
 use Rattle.xsk_cli.specs.Steps.{ComesTo, args_status, plan_in}
 use Rattle.xsk_io.specs.Bay.{Moment}
-use Rattle.xsk_cli.specs.Streams.{status_in}
+use Rattle.xsk_cli.specs.Streams.{status_in, text_in}
 use Rattle.xsk_cli.specs.declared.status.Status.{Status}
 use Rattle.xsk_cli.specs.Words.{Plan, layout_by, plan_by, planned_by}
 use Rattle.xsk_cli.specs.declared.status.Status.TheVariants.{Refused}
@@ -60,6 +64,7 @@ returns g c =
     let status : Status = status_in c.run_on_threads-result.result.result in
     let is : planned ≡ Some plan =
     has_plan (under c.in_ok-args.args) (meaning (codes "forward") forward_options words) c.in_ok-args.ensures.told c.in_ok-check_words.ensures.passed ∙ ap Some (sym c.in_ok-plan.ensures.plan) in
-    subst (λ (s : Status). ComesTo (EndsShown left old new s) planned old new s) (sym c.status_of.ensures)
-    (plan_comes_to (EndsShown left old new status) planned plan old new status is c.in_ok-plan.ensures.accepted c.run_on_threads-result.ensures.begun
-    c.run_on_threads-result.ensures.ends c.run_on_threads-result.ensures.silent c.run_on_threads-result.ensures.cause c.run_on_threads-result.ensures.falls c.run_on_threads-result.ensures.others)
+    let ends : TellsBy (ComesShown plan.work left) plan old new status (line_of status) = told_shown plan old new left status (text_in c.run_on_threads-result.result.result) c.run_on_threads-result.ensures.ends in
+    subst (λ (s : Status). ComesTo (λ (work : Work). ComesShown work left) planned old new s (line_of s)) (sym c.status_of.ensures)
+    (plan_comes_to (λ (work : Work). ComesShown work left) planned plan old new status (line_of status) is c.in_ok-plan.ensures.accepted c.run_on_threads-result.ensures.begun
+    ends c.run_on_threads-result.ensures.silent c.run_on_threads-result.ensures.cause c.run_on_threads-result.ensures.falls c.run_on_threads-result.ensures.others)

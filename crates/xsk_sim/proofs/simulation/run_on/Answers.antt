@@ -6,10 +6,11 @@ use Rattle.xsk_turns.specs.Workers.{Setting, AreGiven}
 use Rattle.xsk_driver.specs.Asking.{IsAnswer}
 use Rattle.xsk_machine.specs.Workers.{HasGiven, setting_by}
 use Rattle.xsk_sim.proofs.Verdicts.{if_ok}
-use Rattle.xsk_sim.specs.Runs.{HasEnded, HasEndedUnder, HasStalled}
+use Rattle.xsk_sim.specs.Left.{HasStalledOn}
+use Rattle.xsk_sim.specs.Runs.{HasEnded, HasEndedUnder}
 use Rattle.xsk_sim.specs.Shown.{Shown, IsShownBy}
 use Rattle.xsk_sim.proofs.Stretch.{none_stands_still}
-use Rattle.xsk_sim.specs.declared.simulation.SimError.TheVariants.{Stalled}
+use Rattle.xsk_sim.specs.declared.simulation.Unended.TheVariants.{Stalled}
 use Rattle.xsk_sim.proofs.simulation.run_on.Given as given
 use Rattle.xsk_sim.proofs.simulation.run_on.Goals as goal
 
@@ -44,24 +45,29 @@ returns-clause-ended g c =
     (c.run_workers.ensures.ended s c.in-Ok.ensures (subst IsRegular (sym c.in-Ok.ensures) c.requires.regular) set.3 c.classes.ensures refl refl))
 
 -- a run that has stalled
-stalls : (g : given.Over) (c : goal.After-drop-shared-inside-4 g) (round : ℕ) → c.run_workers.result ≡ Err (Stalled round)
-    → HasStalled (setting_by c.args.config c.args.wire c.args.manner c.args.packets.now c.in-Ok-all_workers.ensures.set.0) c.args.frames.items c.args.order round
-stalls g c round is =
+stalls : (g : given.Over) (c : goal.After-drop-shared-inside-4 g) (round : ℕ) (object : g.row.S.Denot) → c.run_workers.result ≡ Err (Stalled round object)
+    → HasStalledOn (setting_by c.args.config c.args.wire c.args.manner c.args.packets.now c.in-Ok-all_workers.ensures.set.0) c.args.frames.items c.args.order round (g.S.Server.seen object)
+stalls g c round object is =
     let set = c.in-Ok-all_workers.ensures.set in
     let s : Setting = setting_by c.in-Ok.shared c.args.wire c.args.manner c.args.packets.now set.0 in
-    subst (λ (k : Config). HasStalled (setting_by k c.args.wire c.args.manner c.args.packets.now set.0) c.args.frames.items c.args.order round) c.in-Ok.ensures
-    (subst (λ (number : ℕ). HasStalled s c.args.frames.items number round) c.new.ensures (c.run_workers.ensures.stalled s round c.in-Ok.ensures set.3 is))
+    subst (λ (k : Config). HasStalledOn (setting_by k c.args.wire c.args.manner c.args.packets.now set.0) c.args.frames.items c.args.order round (g.S.Server.seen object)) c.in-Ok.ensures
+    (subst (λ (number : ℕ). HasStalledOn s c.args.frames.items number round (g.S.Server.seen object)) c.new.ensures (c.run_workers.ensures.stalled s round object c.in-Ok.ensures set.3 is))
 
 pub returns-clause-goes_on : goal.returns-clause-goes_on
-returns-clause-goes_on g c ample closes whole round is =
+returns-clause-goes_on g c ample closes whole round object is =
     let s : Setting = setting_by c.args.config c.args.wire c.args.manner c.args.packets.now c.in-Ok-all_workers.ensures.set.0 in
-    let stalled = stalls g c round is in
-    none_stands_still s c.args.frames.items c.args.order round (record { regular = c.requires.regular; closes = closes }) ample whole (record { past = stalled.past; still = stalled.still })
+    let on = stalls g c round object is in
+    none_stands_still s c.args.frames.items c.args.order round (record { regular = c.requires.regular; closes = closes }) ample whole (record { past = on.stalled.past; still = on.stalled.still })
 
 pub returns-clause-stalled : goal.returns-clause-stalled
-returns-clause-stalled g c round is = record {
-  verdicts = c.in-Ok-all_workers.ensures.set.0;
-  once = subst (λ (k : Config). HasGiven g.F.Fn k c.args.packets.now c.in-Ok-all_workers.ensures.set.0 c.args.chain.now c.all_workers.new.chain) c.in-Ok.ensures c.in-Ok-all_workers.ensures.set.1;
-  asked = subst (λ (k : Config). AreGiven (IsAnswer g.F.Fn c.args.chain.now) (setting_by k c.args.wire c.args.manner c.args.packets.now c.in-Ok-all_workers.ensures.set.0)) c.in-Ok.ensures c.in-Ok-all_workers.ensures.set.2;
-  stalled = stalls g c round is;
-}
+returns-clause-stalled g c round object is =
+    let on = stalls g c round object is in
+    record {
+      under = record {
+        verdicts = c.in-Ok-all_workers.ensures.set.0;
+        once = subst (λ (k : Config). HasGiven g.F.Fn k c.args.packets.now c.in-Ok-all_workers.ensures.set.0 c.args.chain.now c.all_workers.new.chain) c.in-Ok.ensures c.in-Ok-all_workers.ensures.set.1;
+        asked = subst (λ (k : Config). AreGiven (IsAnswer g.F.Fn c.args.chain.now) (setting_by k c.args.wire c.args.manner c.args.packets.now c.in-Ok-all_workers.ensures.set.0)) c.in-Ok.ensures c.in-Ok-all_workers.ensures.set.2;
+        stalled = on.stalled;
+      };
+      run = on.run;
+    }

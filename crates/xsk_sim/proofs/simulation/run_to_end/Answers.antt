@@ -7,7 +7,7 @@ use Rattle.xsk_sim.specs.declared.simulation.SimError.TheVariants.{Stalled}
 use Rattle.xsk_sim.specs.Runs.{NeverStill}
 use Rattle.xsk_sim.specs.Seats.{HadRounds, HaveEnded}
 use Rattle.xsk_sim.specs.Stalls.{StandStill}
-use Rattle.xsk_sim.proofs.Ending.{ended_run, figures_number, lists_kept, stalled_run, whole_of}
+use Rattle.xsk_sim.proofs.Ending.{ended_run, figures_number, lists_kept, stalled_on, whole_of}
 use Rattle.xsk_sim.proofs.simulation.run_to_end.Goals as goal
 
 pub returns-in_err-make_rounds-clause-stalled : goal.returns-in_err-make_rounds-clause-stalled
@@ -19,7 +19,7 @@ returns-in_err-make_rounds-clause-stalled g c s frames round seated is =
     let stalled : (had : HadRounds s frames c.args.order.number (round + 1) w object) × (HaveEnded w → ⊥) × (round ≤ 18446744073709551615)
     × StandStill s frames c.args.order.number 64 (round + 1) had.history × NeverStill s frames c.args.order.number round =
     c.in_err-make_rounds.ensures.stalled s frames round seated (ap Err same) in
-    stalled_run s frames c.args.order.number round w object stalled.0 stalled.1 stalled.2 stalled.3 stalled.4
+    stalled_on s frames c.args.order.number round w object stalled.0 stalled.1 stalled.2 stalled.3 stalled.4
 
 pub returns-clause-ended : goal.returns-clause-ended
 returns-clause-ended g c s frames regular seated classes wire manner =

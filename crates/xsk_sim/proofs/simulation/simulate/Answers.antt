@@ -1,12 +1,10 @@
-use Rattle.xsk_sim.proofs.Ending.{logged_ended}
+use Rattle.std.proofs.Common.{◌≡◌, ℕ, Err, ap, ◌∙◌, rules}
+use Rattle.xsk_sim.specs.declared.simulation.Unended.TheVariants.{Stalled}
 use Rattle.xsk_sim.proofs.simulation.simulate.Goals as goal
 
-pub returns-clause-ended : goal.returns-clause-ended
-returns-clause-ended g c =
-    let ran = c.in_ok-plain.ensures.ended in
-    record {
-      verdicts = ran.1.verdicts;
-      once = ran.1.once;
-      asked = ran.1.asked;
-      ended = logged_ended _ c.args.frames.items c.args.order c.in_ok-plain.plain c.in_ok-plain.sent ran.0 ran.1.ended ran.2;
-    }
+pub returns-in-Err-Stalled-clause-stalled : goal.returns-in-Err-Stalled-clause-stalled
+returns-in-Err-Stalled-clause-stalled g c round is =
+    let object = c.in-Err-Stalled.field-0-1 in
+    let now : c.in-Err-Stalled.round ≡ round = cc in
+    let told : c.in-Err-Stalled.field-0 ≡ Stalled c.in-Err-Stalled.round object = search rules in
+    (c.in-Err-Stalled.ensures.stalled round object (ap Err (told ∙ ap (λ (n : ℕ). Stalled n object) now))).under

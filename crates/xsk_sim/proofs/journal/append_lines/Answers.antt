@@ -1,13 +1,14 @@
-use Rattle.std.proofs.Common.{◌≡◌, ◌+◌, ◌<◌, List, [], ◌∷◌, ◌++◌, length, sym, ap, ◌∙◌, arith, rules, append_assoc, length-append}
+use Rattle.std.proofs.Common.{◌≡◌, ◌+◌, ◌<◌, List, [], ◌∷◌, ◌++◌, sym, ap, ◌∙◌, arith, rules, append_assoc, length-append}
 use Rattle.std.specs.Prelude.{codes}
 use Rattle.std.specs.Fmt.{decimal}
 use Rattle.xsk_model.specs.Entry.{Entry}
 use Rattle.xsk_log.specs.Left.{left_of}
+use Rattle.xsk_log.specs.Log.{entries_of}
 use Rattle.xsk_log.specs.Line.{line_of}
 use Rattle.xsk_sim.specs.Journal.{round_of, journal_line, journal_of}
 use Rattle.xsk_sim.proofs.Ending.{log_count}
 use Rattle.xsk_sim.proofs.Journaling.{taken, none_taken, none_left, all_passed, own_few, journal_push}
-use Rattle.xsk_sim.proofs.journal.append_journal.Goals as goal
+use Rattle.xsk_sim.proofs.journal.append_lines.Goals as goal
 
 pub next_round-requires : goal.next_round-requires
 next_round-requires c =
@@ -22,7 +23,7 @@ loop-call-preserved c =
     let later : List Entry = left_of c.write_next.new.self in
     let first = taken l.lines.pairs c.in-Some.who (left_of l.lines) later l.line c.write_next.new.out c.in-Some.ensures.next in
     let e : Entry = first.0 in
-    let pairs = c.args.run.now.pairs in
+    let pairs = c.args.lines.pairs in
     let old = c.args.text.now.items in
     let bytes = c.bytes.result.now in
     let round = c.in_ok-round.round in
@@ -46,11 +47,11 @@ pub returns-in_default : goal.returns-in_default
 returns-in_default c =
     let l = c.loop-call in
     let none = none_taken l.lines.pairs (left_of l.lines) _ l.line _ c.in_default.ensures.next in
-    l.invariant.text ∙ ap (λ es. c.args.text.now.items ++ journal_of c.args.run.now.pairs es) (all_passed c.args.run.now.log l.invariant.past (left_of l.lines) l.invariant.log none)
+    l.invariant.text ∙ ap (λ es. c.args.text.now.items ++ journal_of c.args.lines.pairs es) (all_passed (entries_of c.args.log.now) l.invariant.past (left_of l.lines) l.invariant.log none)
 
 pub returns : goal.returns
 returns c =
     let l = c.loop-call in
-    let count = c.len-call-end.ensures ∙ log_count c.log.result.now ∙ ap length c.log.ensures.entries in
-    let none = none_left c.args.run.now.log l.invariant.past (left_of l.lines) l.invariant.log (omega (arith, count, l.invariant.passed, c.loop-call-test.false)) in
-    l.invariant.text ∙ ap (λ es. c.args.text.now.items ++ journal_of c.args.run.now.pairs es) (all_passed c.args.run.now.log l.invariant.past (left_of l.lines) l.invariant.log none)
+    let count = c.len-call-end.ensures ∙ log_count c.args.log.now in
+    let none = none_left (entries_of c.args.log.now) l.invariant.past (left_of l.lines) l.invariant.log (omega (arith, count, l.invariant.passed, c.loop-call-test.false)) in
+    l.invariant.text ∙ ap (λ es. c.args.text.now.items ++ journal_of c.args.lines.pairs es) (all_passed (entries_of c.args.log.now) l.invariant.past (left_of l.lines) l.invariant.log none)

@@ -1,0 +1,157 @@
+/* What the static library libxsk_c.a exports (crate xsk_c): the model of AF_XDP sockets with its drivers, for a program in C.
+ *
+ * Slices cross as a pointer and a length, and no pointer is null, even where the length is 0. What a call fills is written where it
+ * says so, and nowhere else. A handle is used by one call at a time, and by one thread, or under a lock; never in a signal's handler.
+ * The program gives malloc, realloc and free from one allocator, and links libc's part of the kit (c/README).
+ *
+ * Numbers. A pair is a port's queue, with its FILL and COMPLETION ring and its driver: pair = port * queues + queue. A socket has RX
+ * and TX: socket = pair * sockets + class. An application has one queue of two paired ports (0 and 1, 2 and 3), with all rings there:
+ * app = port / 2 * queues + queue. Each ring has one producer and one consumer, the application or the driver.
+ *
+ * Frames. Frame f has the addresses from f * chunk on. At the start all frames stand on FILL: those of pair p are the pool frames from
+ * p * pool on, where pool = frames / (ports * queues). An application that is to have them at the start gets them so: each pair's
+ * packets begin with pool short ones for a socket of it, and before the application's first call of its own somebody lets the drivers
+ * have rounds, peeks these packets from RX and releases them. Then FILL is empty and the application has all frames of the pair; it
+ * may put any frame that it has on any FILL or TX that is its own. The calls of this handover stand in the journal; each of these
+ * packets is delivered and none is dropped, so that no statistic counts them. It needs an RX ring, and a FILL ring of at least pool
+ * entries. A packet goes to the queue of its port that is the sum of its first 12 bytes modulo queues, and to the class that is the
+ * sum of its first 14 bytes modulo sockets. */
+#ifndef XSK_C_H
+#define XSK_C_H
+#include <stdbool.h>
+#include <stddef.h>
+#include <stdint.h>
+
+#ifdef __cplusplus
+extern "C" {
+#endif
+
+/* The most entries of one call. */
+#define XSK_C_MOST 32
+
+/* A bench: the rings, the drivers and all calls so far. The program makes it all zero before the first call, and never writes it. */
+struct xsk_c {
+	void *at;
+	bool live;
+};
+
+struct xsk_c_layout {
+	uint32_t ports;			   /* 2 or 4; each needs a capture, perhaps without packets */
+	uint32_t queues;		   /* of each port: 1, 2 or 4 */
+	uint32_t sockets;		   /* of each queue: 1, 2 or 4, each with RX and TX, either of which may lie unused */
+	uint32_t frames;		   /* 1 to 4096, as many for each pair */
+	uint32_t chunk, headroom;	   /* 2048 or 4096; below chunk - 256 */
+	uint32_t rx, tx, fill, comp;	   /* entries: powers of two from 2 to 2048; fill at least the frames of a pair */
+	bool sg;			   /* packets may have several frames (XDP_USE_SG) */
+	bool wakeup;			   /* the need-wakeup flags are used (XDP_USE_NEED_WAKEUP) */
+	bool drops;			   /* a packet that finds no frame on FILL or no place on RX is dropped, and else it waits */
+	uint32_t sent_packets, sent_bytes; /* room for what each driver sends */
+};
+
+/* struct xdp_desc */
+struct xsk_c_desc {
+	uint64_t addr;
+	uint32_t len, options;
+};
+
+/* Rings: FILL and COMPLETION are numbered by pair, RX and TX by socket. */
+enum xsk_c_ring { XSK_C_FILL, XSK_C_COMP, XSK_C_RX, XSK_C_TX };
+
+/* Marks: need-wakeup of a FILL ring (by pair) and of a TX ring (by socket), 1 where the driver wants a kick; and the kick of a driver
+ * (by pair), which the application sets to 1 where need-wakeup is set. */
+enum xsk_c_mark { XSK_C_NEED_FILL, XSK_C_NEED_TX, XSK_C_KICK };
+
+/* What each export answers. But for XSK_C_DONE nothing was done: no call was made, and nothing was written but what is said. */
+enum xsk_c_answer {
+	XSK_C_DONE,
+	XSK_C_NOT_LIVE,	 /* the handle isn't live: no bench is open, or it was closed */
+	XSK_C_LIVE,	 /* the handle is live, so that no other bench can be opened there */
+	XSK_C_NO_MEMORY, /* memory couldn't be had */
+	XSK_C_NO_SUCH,	 /* there is no such kind, mark, pair, class or packet, or it sent more than there was room for */
+	XSK_C_SHORT,	 /* the bytes or the room that were handed in are too few */
+	XSK_C_FULL,	 /* a Reserve found fewer places free: the call was made, and answered so */
+	XSK_C_EMPTY,	 /* a Peek found nothing: the call was made, and answered so */
+
+	/* A call isn't legal after this application's own calls and replies: the first of these conditions that fails, in this order. */
+	XSK_C_NO_CALLER = 16, /* there is no such application */
+	XSK_C_UNKNOWN,	      /* there is no such ring or mark */
+	XSK_C_NOT_ITS_OWN,    /* it is another's, or isn't to be set now */
+	XSK_C_COUNT,	      /* the number isn't from 1 to 32, or none that the mark can have */
+	XSK_C_PLACES,	      /* fewer places are reserved, or fewer items were peeked */
+	XSK_C_ITEMS,	      /* an item may not stand in the ring: on FILL an address alone, without length and options */
+	XSK_C_FRAMES,	      /* the application doesn't have these frames */
+	XSK_C_PACKETS,
+	XSK_C_ENDED,
+
+	/* A layout is refused: the first of these that fails, in this order. */
+	XSK_C_BAD_PORTS = 32,
+	XSK_C_BAD_QUEUES,
+	XSK_C_BAD_SOCKETS,
+	XSK_C_BAD_CAPTURES, /* there aren't as many captures as ports, or their ends don't lie in the text, in order */
+	XSK_C_BAD_CHUNK,
+	XSK_C_BAD_HEADROOM,
+	XSK_C_BAD_FRAMES,
+	XSK_C_BAD_RX,
+	XSK_C_BAD_TX,
+	XSK_C_BAD_FILL,
+	XSK_C_BAD_COMP,
+	XSK_C_BAD_POOL, /* the frames of a pair don't fit its FILL */
+
+	/* A capture is refused: the first of these that fails, in the first such capture. */
+	XSK_C_SHORT_HEADER = 48,
+	XSK_C_BAD_MAGIC,
+	XSK_C_BAD_VERSION,
+	XSK_C_BAD_LINK,
+	XSK_C_TRUNCATED,
+	XSK_C_RECORD_TOO_LONG,
+};
+
+/* struct xdp_statistics of one socket */
+struct xsk_c_statistics {
+	uint64_t rx_dropped, rx_invalid_descs, tx_invalid_descs, rx_ring_full, rx_fill_ring_empty_descs, tx_ring_empty_descs;
+};
+
+/* Opens a bench. The captures stand one behind the other in text, and are copied; ends[i] is where that of port i ends. */
+uint32_t xsk_c_open(struct xsk_c *, const struct xsk_c_layout *, const uint8_t *text, size_t text_len, const uint64_t *ends, size_t ends_len);
+/* Lets a bench go. */
+uint32_t xsk_c_close(struct xsk_c *);
+
+/* Asks for places of FILL or TX. Where the answer is XSK_C_FULL, free tells how many there are. */
+uint32_t xsk_c_reserve(struct xsk_c *, uint32_t app, uint32_t kind, uint32_t ring, uint32_t count, uint32_t *free);
+/* Submits items. On TX the bytes of item i begin at data[i * chunk], desc.len of them, and are written to its frame where they fit the
+ * chunk from its address on; data has descs_len * chunk bytes there, and else the answer is XSK_C_SHORT. On FILL data is not read. */
+uint32_t xsk_c_submit(struct xsk_c *, uint32_t app, uint32_t kind, uint32_t ring, const struct xsk_c_desc *descs, size_t descs_len,
+		      const uint8_t *data, size_t data_len);
+/* Takes items, at most descs_len: count tells how many, and their descriptors are written. On RX the bytes of item i are written from
+ * data[i * chunk] on; data has descs_len * chunk bytes there, and else the answer is XSK_C_SHORT. On COMPLETION data is not written. */
+uint32_t xsk_c_peek(struct xsk_c *, uint32_t app, uint32_t kind, uint32_t ring, struct xsk_c_desc *descs, size_t descs_len, uint8_t *data,
+		    size_t data_len, uint32_t *count);
+/* Gives back places of RX or COMPLETION that were peeked. */
+uint32_t xsk_c_release(struct xsk_c *, uint32_t app, uint32_t kind, uint32_t ring, uint32_t count);
+/* Reads a mark. */
+uint32_t xsk_c_look(struct xsk_c *, uint32_t app, uint32_t mark, uint32_t index, uint64_t *value);
+/* Sets a mark, and tells what it was. */
+uint32_t xsk_c_swap(struct xsk_c *, uint32_t app, uint32_t mark, uint32_t index, uint64_t value, uint64_t *old);
+
+/* Each driver that hasn't ended makes one call; still tells whether that changed nothing. */
+uint32_t xsk_c_round(struct xsk_c *, bool *still);
+/* Rounds until nothing has changed for 64 of them, but no more than most; wait tells whether so. After XSK_C_NO_MEMORY the rounds so
+ * far were made. */
+uint32_t xsk_c_run_drivers(struct xsk_c *, uint32_t most, bool *wait);
+
+/* The statistics of a socket, by its pair and its class there. */
+uint32_t xsk_c_statistics(struct xsk_c *, uint32_t pair, uint32_t class_, struct xsk_c_statistics *);
+/* How many packets the driver of a pair sent. */
+uint32_t xsk_c_sent(struct xsk_c *, uint32_t pair, uint32_t *count);
+/* One of them, counted from 0; len tells how long it is, also where the answer is XSK_C_SHORT. */
+uint32_t xsk_c_packet(struct xsk_c *, uint32_t pair, uint32_t number, uint8_t *out, size_t out_len, uint64_t *len);
+/* The journal's lines, from call number from on and as many as there is room for: next tells the call to go on with, end where the
+ * lines end. The answer is XSK_C_SHORT where lines are left. */
+uint32_t xsk_c_journal(struct xsk_c *, uint32_t from, uint8_t *out, size_t out_len, uint32_t *next, uint64_t *end);
+/* The text of an answer; len tells how long it is, also where the answer is XSK_C_SHORT. */
+uint32_t xsk_c_why(uint32_t answer, uint8_t *out, size_t out_len, uint64_t *len);
+
+#ifdef __cplusplus
+}
+#endif
+#endif

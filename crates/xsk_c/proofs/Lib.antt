@@ -1,0 +1,3 @@
+pub mod Data
+pub mod Lists
+pub mod Short

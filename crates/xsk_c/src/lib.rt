@@ -1,0 +1,14 @@
+//! The bench for C: a handle that owns it, and an export for each call. `c/include/xsk_c.h` declares them.
+#![tactic(auto)]
+
+mod answers;
+mod calls;
+mod exports;
+mod handle;
+mod items;
+mod opening;
+mod parts;
+mod purse;
+mod reading;
+mod state;
+mod texts;

@@ -1,0 +1,11 @@
+use Rattle.std.proofs.Common.{◌≡◌, ◌++◌, List}
+use Rattle.std.specs.Prelude.{flat_map}
+use Rattle.std.specs.List.{range_with_len}
+use Rattle.xsk_judge.specs.Stands.{Line, StandsFor}
+use Rattle.xsk_hints.specs.Noted.{Notes}
+use Rattle.xsk_hints.specs.Told.{socket_lines}
+use Rattle.xsk_hints.proofs.rings.push_sockets.Given as goal
+
+abbrev pub invariant-loop-socket : goal.invariant-loop-socket
+invariant-loop-socket l = (lines : List Line) → StandsFor l.setting l.judge lines → Notes l.setting l.hints lines
+    → l.text.items ≡ l.initial.text.items ++ flat_map (socket_lines l.setting lines) (range_with_len 0 l.socket)

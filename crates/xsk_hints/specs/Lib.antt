@@ -1,0 +1,4 @@
+pub mod Facts
+pub mod Noted
+pub mod Tallies
+pub mod Told
