@@ -1,6 +1,7 @@
 """Recordings of record/example's forwarder over two ports: correct, and with each of its mistakes."""
 
 import os
+import re
 import signal
 import subprocess
 import sys
@@ -11,10 +12,13 @@ from cases import case
 from linux import Wire, packet, veth
 
 PAGE = "RECORDING.md"
-TOP = os.path.join(os.path.dirname(os.path.abspath(__file__)), "..", "..", "record")
+TESTS = os.path.join(os.path.dirname(os.path.abspath(__file__)), "..")
+TOP = os.path.join(TESTS, "..", "record")
+PROGRAM = os.path.join(TESTS, "..", "crates", "xsk", "out", "xsk")  # what ./test or ./prove left, if it did
+JUDGE = os.path.join(TESTS, "recordings", "judge.py")
 PACKETS = 400
-# What is told of each mistake: the words behind "not possible L" that the judge's reason begins with, or None where it's possible.
-MISTAKES = {1: "frame: ", 2: "frame: ", 3: None, 4: "places: ", 5: "release: ", 6: None, 7: "frame: ", 8: None, 9: None, 10: None}
+# Which reason is told of each mistake, or None where it's possible.
+MISTAKES = {1: "frame", 2: "frame", 3: None, 4: "places", 5: "release", 6: None, 7: "frame", 8: None, 9: None, 10: None}
 
 
 def built():
@@ -53,9 +57,19 @@ def merged(files, folder):
 
 
 def judged(name):
-    """What the judge tells of a text, in lines."""
-    return subprocess.run([sys.executable, "-B", os.path.join(TOP, "tests", "judge.py"), name], stdout=subprocess.PIPE, text=True,
-                          check=False).stdout.splitlines()
+    """What the judge in Python tells of a text, in lines. Where the program is there, `xsk check` must tell the same, and hints behind it."""
+    judges = [[sys.executable, "-B", JUDGE, name]] + [[PROGRAM, "check", name]] * os.access(PROGRAM, os.X_OK)
+    said = [subprocess.run(judge, stdout=subprocess.PIPE, text=True, check=False) for judge in judges]
+    lines = said[0].stdout.splitlines()
+    for other in said[1:]:
+        assert (other.returncode, other.stdout.splitlines()[:len(lines)]) == (said[0].returncode, lines), (other.stdout[:500], lines)
+    return lines
+
+
+def reason(lines):
+    """The word for why a recording isn't possible, or None."""
+    found = re.search(r"\(([a-z ]+)\): ", lines[2]) if lines[0].startswith("not possible") else None
+    return found and found[1]
 
 
 @case(PAGE, "a correct forwarder's recording is possible, and has all its calls")
@@ -83,10 +97,7 @@ def mistakes():
         with tempfile.TemporaryDirectory() as folder:
             *_, files = run("l2fwd-recorded", folder, "-i", "20000", "-m", str(mistake))
             said = judged(merged(files, folder)[2])
-            if wanted is None:
-                yield f"mistake {mistake}", said[0].split()[0], "possible"
-            else:
-                yield f"mistake {mistake}", (said[0][:12], said[-1].strip()[:len(wanted)]), ("not possible", wanted)
+            yield f"mistake {mistake}", (said[0].split()[0], reason(said)), ("not" if wanted else "possible", wanted)
 
 
 @case(PAGE, "XSK_RECORD_ASAN stops where a frame is written to behind submit, and leaves a correct program alone")

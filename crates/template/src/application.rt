@@ -1,6 +1,9 @@
 //! The application of one's own: a packet on the RX of a port goes out by the other port, which writes its address over the source's,
 //! and a frame on COMPLETION goes back to the FILL of its home.
 
+ghost use Rattle.std.specs.Prelude.{IfOk};
+ghost use Rattle.xsk_model.specs.Asks.{HasAnswered};
+
 use anyhow::{Context, Result, bail};
 use xsk_bench::Bench;
 use xsk_model::steering::paired_port;
@@ -74,10 +77,10 @@ fn bring_home(bench: &mut Bench<'_>, port: u32) -> Result<bool> {
 /// Takes the next item of a ring, if there is one.
 fn take(bench: &mut Bench<'_>, ring: Ring) -> Result<Option<Item>> {
     let mut items = Batch::new();
-    bench.serve(0, Ask::Peek(ring, 1), &mut items)?;
+    call(bench, Ask::Peek(ring, 1), &mut items)?;
     let item = items.pop_front();
     if item.is_some() {
-        bench.serve(0, Ask::Release(ring, 1), &mut items)?;
+        call(bench, Ask::Release(ring, 1), &mut items)?;
     }
     Ok(item)
 }
@@ -85,10 +88,17 @@ fn take(bench: &mut Bench<'_>, ring: Ring) -> Result<Option<Item>> {
 /// Puts an item into a ring, which has room for all frames.
 fn put(bench: &mut Bench<'_>, ring: Ring, item: Item) -> Result<()> {
     let mut items = Batch::new();
-    if bench.serve(0, Ask::Reserve(ring, 1), &mut items)? != Answer::Granted {
+    if call(bench, Ask::Reserve(ring, 1), &mut items)? != Answer::Granted {
         bail!("the ring is full");
     }
     items.push(item);
-    bench.serve(0, Ask::Submit(ring), &mut items)?;
+    call(bench, Ask::Submit(ring), &mut items)?;
     Ok(())
+}
+
+/// Makes a call of this application, which is the only one.
+fn call(bench: &mut Bench<'_>, ask: Ask, items: &mut Batch) -> Result<Answer>
+    ensures { IfOk result (λ answer. HasAnswered answer items.new) }
+{
+    Ok(bench.serve(0, ask, items)?)
 }

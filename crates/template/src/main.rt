@@ -5,6 +5,7 @@
 ghost use Rattle.std.specs.Prelude.{◌≡◌, All, IfOk, IsTrue, length};
 ghost use Rattle.xsk_model.specs.Opening.{AreFrames};
 ghost use Rattle.xsk_pcap.specs.Capture.{IsShort};
+ghost use Rattle.xsk_prog.specs.Chain.{AllObey};
 ghost use Rattle.xsk_machine.specs.Acts.{HasShortPackets};
 
 mod application;
@@ -15,7 +16,7 @@ use std::rt::Files;
 use std::{env, fs};
 use xsk_bench::{Amount, Bench, Traffic, Wire};
 use xsk_pcap::Capture;
-use xsk_prog::{Chain, Rule, XdpProgram};
+use xsk_prog::{Chain, Rule, Verdict, XdpProgram};
 use xsk_socket::{Layout, all_frames, regular};
 use xsk_umem::{Frames, PacketList, Umem};
 
@@ -26,19 +27,66 @@ const ROOM: Amount = Amount {
 };
 
 fn main(rt: HostRuntime) -> Result<()> {
-    let alloc = rt.alloc();
-    let words: Vec<String> = env::args(&rt)?.skip(1).collect(alloc)?;
-    let [in0, in1, out0, out1] = words.as_slice() else {
-        bail!("the words are IN0 IN1 OUT0 OUT1");
-    };
-    let (traffic, frames) = prepared(alloc, read(&rt, in0)?, read(&rt, in1)?)?;
+    let words: Vec<String> = env::args(&rt)?.skip(1).collect(rt.alloc())?;
     let rule = Rule::Redirect { sockets: 1 };
     let program = XdpProgram::attach(rule, |bytes: &[u8], queue: u32| rule.verdict(bytes, queue));
-    let mut chain = Chain::of(alloc, program)?;
-    let mut bench = Bench::open(alloc, &traffic, frames, &mut chain, Wire::Wait, ROOM)?;
-    application::forward(&mut bench)?;
-    write(&rt, out0, &bench, 0)?;
-    write(&rt, out1, &bench, 1)
+    let mut chain = Chain::of(rt.alloc(), program)?;
+    forward(&rt, words.as_slice(), &mut chain)
+}
+
+/// Forwards between the captures that the words name, under a chain of programs.
+fn forward<R: Files + Print + AllocGlobal, F: Fn(&[u8], u32) -> Verdict>(
+    rt: &R,
+    words: &[String],
+    chain: &mut Chain<F>,
+) -> Result<()>
+    requires { AllObey F.Fn chain.old }
+{
+    let [in0, in1, outputs @ ..] = words else {
+        bail!("the words are IN0 IN1 OUT0 OUT1");
+    };
+    let packets = received(rt, in0, in1)?;
+    let (traffic, frames) = prepared(rt.alloc(), packets)?;
+    forward_all(rt, &traffic, frames, chain, outputs)
+}
+
+/// The same, once all is read.
+fn forward_all<R: Files + Print + AllocGlobal, F: Fn(&[u8], u32) -> Verdict>(
+    rt: &R,
+    traffic: &Traffic,
+    frames: Frames,
+    chain: &mut Chain<F>,
+    outputs: &[String],
+) -> Result<()>
+    requires frames { AreFrames traffic.now.config.geometry frames.items }
+    requires obeys { AllObey F.Fn chain.old }
+{
+    let mut bench = Bench::open(rt.alloc(), traffic, frames, chain, Wire::Wait, ROOM)?;
+    forward_on(rt, &mut bench, outputs)
+}
+
+/// Lets the application forward, and writes what each port sent.
+fn forward_on<R: Files + Print + AllocGlobal>(
+    rt: &R,
+    bench: &mut Bench<'_>,
+    outputs: &[String],
+) -> Result<()> {
+    let [out0, out1] = outputs else {
+        bail!("the words are IN0 IN1 OUT0 OUT1");
+    };
+    application::forward(bench)?;
+    write(rt, out0, bench, 0)?;
+    write(rt, out1, bench, 1)
+}
+
+/// The packets of two captures, for a port each.
+fn received<R: Files + AllocGlobal>(rt: &R, in0: &String, in1: &String) -> Result<Vec<PacketList>>
+    ensures two { IfOk result (λ lists. length lists.items ≡ 2) }
+    ensures short { IfOk result (λ lists. All HasShortPackets lists.items) }
+{
+    let first = read(rt, in0)?;
+    let second = read(rt, in1)?;
+    Ok(vec![in rt.alloc(); first, second]?)
 }
 
 /// The packets of a capture.
@@ -50,9 +98,9 @@ fn read<R: Files + AllocGlobal>(rt: &R, name: &String) -> Result<PacketList>
 }
 
 /// The traffic of both ports, and the frames of the UMEM: two ports with a queue and a socket each, as they are by default.
-fn prepared(alloc: Global, first: PacketList, second: PacketList) -> Result<(Traffic, Frames)>
-    requires first { HasShortPackets first }
-    requires second { HasShortPackets second }
+fn prepared(alloc: Global, packets: Vec<PacketList>) -> Result<(Traffic, Frames)>
+    requires two { length packets.items ≡ 2 }
+    requires short { All HasShortPackets packets.items }
     ensures { IfOk result (λ made. AreFrames made.0.config.geometry made.1.items) }
 {
     let layout = Layout::default();
@@ -62,19 +110,10 @@ fn prepared(alloc: Global, first: PacketList, second: PacketList) -> Result<(Tra
         bail!("a UMEM has all its frames");
     }
     let config = regular(alloc, geometry, &layout)?;
-    let packets = both(alloc, first, second)?;
-    let traffic = Traffic::new(alloc, config, packets)?;
-    Ok((traffic, frames))
-}
-
-/// The lists of both ports.
-fn both(alloc: Global, first: PacketList, second: PacketList) -> Result<Vec<PacketList>>
-    requires first { HasShortPackets first }
-    requires second { HasShortPackets second }
-    ensures two { IfOk result (λ lists. length lists.items ≡ 2) }
-    ensures short { IfOk result (λ lists. All HasShortPackets lists.items) }
-{
-    Ok(vec![in alloc; first, second]?)
+    match Traffic::new(alloc, config, packets) {
+        Ok(traffic) => Ok((traffic, frames)),
+        Err(error) => Err(error.into()),
+    }
 }
 
 /// Writes a capture of what a port sent.

@@ -17,3 +17,5 @@ pub mod Misses
 pub mod OneVerdict
 pub mod Feeds
 pub mod Written
+pub mod Named
+pub mod Following

@@ -110,7 +110,7 @@ line-says pairs xs said h =
 
 -- ---- forms
 
-submitted-joined : (form : Ask) (items : List Item) → HasAsked form items → submitted (joined_call form items) ≡ items
+pub submitted-joined : (form : Ask) (items : List Item) → HasAsked form items → submitted (joined_call form items) ≡ items
 submitted-joined (ask.Reserve r n) items has = sym has
 submitted-joined (ask.Submit r) items has = refl
 submitted-joined (ask.Peek r n) items has = sym has
@@ -130,7 +130,7 @@ read-by-descs : (items : List Item) → read_items items ≡ map frameless (desc
 read-by-descs [] = refl
 read-by-descs (item ∷ items) = ap (λ (l : List Item). frameless item.desc ∷ l) (read-by-descs items)
 
-read-joined : (form : Ask) (told items : List Item) → descs_of items ≡ descs_of told → read_call (joined_call form items) ≡ read_call (joined_call form told)
+pub read-joined : (form : Ask) (told items : List Item) → descs_of items ≡ descs_of told → read_call (joined_call form items) ≡ read_call (joined_call form told)
 read-joined (ask.Reserve r n) told items same = refl
 read-joined (ask.Submit r) told items same = ap (Submit r) (read-by-descs items ∙ ap (map frameless) same ∙ sym (read-by-descs told))
 read-joined (ask.Peek r n) told items same = refl

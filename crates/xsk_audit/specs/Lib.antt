@@ -4,3 +4,6 @@ pub mod Views
 pub mod Shelf
 pub mod Telling
 pub mod Playing
+pub mod Naming
+pub mod Reasons
+pub mod Why

@@ -122,7 +122,7 @@ fn pass_same<'a>(
 }
 
 /// The round of a line that is a round, a space and this text.
-fn round_before(line: &[u8], text: &[u8]) -> Option<u64>
+pub(crate) fn round_before(line: &[u8], text: &[u8]) -> Option<u64>
     ensures some { IfSome result (λ round. (round < 2 ^ 64) × (line.now ≡ decimal round ++ codes " " ++ text.now)) }
     ensures none { IfNone result ((round : ℕ) → round < 2 ^ 64 → line.now ≢ decimal round ++ codes " " ++ text.now) }
 {

@@ -98,7 +98,7 @@ fn make(
 }
 
 /// Takes all items out of a batch.
-fn empty(items: &mut Batch)
+pub(crate) fn empty(items: &mut Batch)
     ensures { items.new ≡ [] }
 {
     for _item in 0..items.len() {

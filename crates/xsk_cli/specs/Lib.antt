@@ -1,7 +1,7 @@
 -- What a command answers. To read in this order:
 -- Words: which words are a command. ExitStatus, Line: its status and the line of a refusal. Judged: what of the inputs is refused. Outcome: what is
 --   made of their bytes. Streams, Ends, Cause: what was done to the streams, and why it ended. Forward: the same by threads. Format: pcap and pcapng.
--- Journals: journals of runs are legal. Ample: where no run stalls. For code: Steps.
+-- Journals: journals of runs are legal. Ample: where no run stalls. Misfit: what is told of a journal that isn't legal. For code: Steps.
 pub mod Cause
 pub mod ExitStatus
 pub mod Words
@@ -15,3 +15,4 @@ pub mod Steps
 pub mod Forward
 pub mod Ample
 pub mod Journals
+pub mod Misfit

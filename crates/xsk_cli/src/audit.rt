@@ -77,7 +77,7 @@ fn one_file<'w>(args: &Args<'w>) -> Option<&'w str>
 }
 
 /// The layout that was asked for, unless it is refused. It wants no files.
-fn audited_layout(args: &Args<'_>) -> Result<Layout, Unlawful>
+pub(crate) fn audited_layout(args: &Args<'_>) -> Result<Layout, Unlawful>
     ensures layout { IfOk result (λ layout. layout ≡ without_files (layout_by (under args.now))) }
     ensures accepted { IfOk result (λ layout. fault_of layout ≡ None) }
     ensures refused { IfErr result (λ unlawful. fault_of (without_files (layout_by (under args.now))) ≡ Some unlawful) }

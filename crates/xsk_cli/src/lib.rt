@@ -13,6 +13,7 @@ mod leaves;
 mod line;
 mod lists;
 mod made;
+mod misfit;
 pub mod options;
 mod output;
 mod plain;
@@ -27,6 +28,7 @@ mod threads;
 mod words;
 mod work;
 
+pub use misfit::why_not_legal;
 pub use plain::{run_plain, tell};
 pub use status::{Excess, Status};
 pub use thread_run::ThreadRun;

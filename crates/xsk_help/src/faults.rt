@@ -2,6 +2,7 @@
 
 use crate::files::name_of;
 use crate::front::hint;
+use crate::journal::push_why;
 use std::alloc::{AllocError, Global};
 use std::fmt::Write;
 use std::rt::Files;
@@ -55,6 +56,7 @@ fn push_fault<R: Files>(
             writeln!(text, "xsk: {unlawful}\nxsk --help tells what is accepted")
         }
         Status::Stalled { .. } => text.push_str(STALLED),
+        Status::NotLegal { .. } => push_why(rt, alloc, text, words),
         _ => Ok(()),
     }
 }

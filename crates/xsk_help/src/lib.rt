@@ -6,6 +6,7 @@ mod command;
 mod faults;
 mod files;
 mod front;
+mod journal;
 mod options;
 mod usage;
 mod version;

@@ -1,7 +1,7 @@
 -- Oddities are counted where they belong.
-use Rattle.std.proofs.Common.{◌≡◌, ◌∙◌, refl, sym, ap, subst, ℕ, zero, suc, ◌+◌, ◌*◌, ◌==◌, ◌&&◌, ◌<◌, ◌≤◌, Bool, true, false, cond, Option, Some, None, List, [], ◌∷◌, ◌++◌, length, get_or, set, replicate, append_assoc, arith, ⊎_elim, get_or-set_same, get_or-set_other, length-set, eq-eqb, ne_eqb}
-use Rattle.std.proofs.lemmas.Bool.{cases_Bool, cases_eq}
-use Rattle.std.proofs.lemmas.List.{replicate-append-replicate, get_or-replicate, length-replicate}
+use Rattle.std.proofs.Common.{◌≡◌, ◌∙◌, refl, sym, ap, subst, ℕ, ◌+◌, ◌*◌, ◌==◌, ◌&&◌, ◌<◌, Bool, true, false, cond, Option, Some, None, List, [], ◌∷◌, ◌++◌, length, drop, get_or, set, replicate, append_assoc, arith, ⊎_elim, get_or-set_same, get_or-set_other, length-set, eq-eqb, ne_eqb}
+use Rattle.std.proofs.lemmas.Bool.{cases_eq}
+use Rattle.std.proofs.lemmas.List.{drop_more, replicate-append-replicate, get_or-replicate}
 use Rattle.xsk_umem.specs.declared.batch.XdpDesc.{XdpDesc}
 use Rattle.xsk_model.specs.declared.call.Ring.{Ring}
 use Rattle.xsk_model.specs.declared.call.Ring.TheVariants.{Fill, Comp, Rx, Tx}
@@ -78,7 +78,7 @@ own_ring s line r ts o p ls size has before = ⊎_elim
     ∙ ap (λ (b : Bool). tally_of (replicate (cond b 1 0) line ++ ls)) (sym (ne_eqb (code p) (code o) off)))
     (cases_eq (code p) (code o))
 
-length-counted_if : (s : Setting) (line : ℕ) (r : Ring) (ts : List Tally) (x : Option Oddity) → length (counted_if s line r ts x) ≡ length ts
+pub length-counted_if : (s : Setting) (line : ℕ) (r : Ring) (ts : List Tally) (x : Option Oddity) → length (counted_if s line r ts x) ≡ length ts
 length-counted_if s line r ts None = refl
 length-counted_if s line r ts (Some o) = length-set ts (index s r o) (with_line line (odd_in s ts r o))
 
@@ -116,6 +116,15 @@ all_else s line q r [] ts p hq mq hr mr off = refl
 all_else s line q r (e ∷ es) ts p hq mq hr mr off =
     all_else s line q r es (counted_if s line q ts (oddity_of s q e)) p hq mq hr mr off ∙ if_else s line q r ts (oddity_of s q e) p hq mq hr mr off
 
+-- one entry more
+pub all_more : (s : Setting) (line : ℕ) (r : Ring) (es : List XdpDesc) (i : ℕ) (d : XdpDesc) (x : Option Oddity) (old new first : List Tally) → i < length es
+    → x ≡ oddity_of s r (get_or es i d) → new ≡ counted_if s line r old x → all_counted s line r (drop i es) old ≡ all_counted s line r es first
+    → all_counted s line r (drop (i + 1) es) new ≡ all_counted s line r es first
+all_more s line r es i d x old new first low told counted_so before =
+    ap (all_counted s line r (drop (i + 1) es)) (counted_so ∙ ap (counted_if s line r old) told)
+    ∙ sym (ap (λ xs. all_counted s line r xs old) (drop_more es i d low))
+    ∙ before
+
 -- ---- calls
 
 -- a call that has no oddity, and is no Peek on COMPLETION
@@ -150,8 +159,8 @@ notes_reserve_none s noted line q n answer lines none now = plain s noted line (
 
 pub notes_granted : (s : Setting) (noted : Noted) (line : ℕ) (q : Ring) (n : ℕ) (answer : Answer) (lines : List Line) → is_refusal answer ≡ false
     → Notes s noted lines → Notes s noted (more line (Reserve q n answer) lines)
-notes_granted s noted line q n answer lines no now = plain s noted line (Reserve q n answer) lines now
-    (λ r has made o. by (is_ring r q) (is_odd o Refused) (is_refusal answer) no) (λ d low. refl)
+notes_granted s noted line q n answer lines granted now = plain s noted line (Reserve q n answer) lines now
+    (λ r has made o. by (is_ring r q) (is_odd o Refused) (is_refusal answer) granted) (λ d low. refl)
   where
     by : (a b c : Bool) → c ≡ false → ◌≡◌ {A = ℕ} (cond (a && (b && c)) 1 0) 0
     by a b c h = grind (arith, h)
@@ -160,6 +169,12 @@ pub notes_submit_none : (s : Setting) (noted : Noted) (line : ℕ) (q : Ring) (e
     → Notes s noted lines → Notes s noted (more line (Submit q es) lines)
 notes_submit_none s noted line q es lines none now = plain s noted line (Submit q es) lines now
     (λ r has made o. is_false (is_ring r q) (often s r o es) 0 (elsewhere s q r none has made)) (λ d low. refl)
+
+abbrev noted_of : List Tally → List ℕ → Noted
+noted_of ts ps = record { tallies = ts; peeks = ps }
+
+pub noted_is : (ts us : List Tally) (ps qs : List ℕ) → ts ≡ us → ps ≡ qs → noted_of ts ps ≡ noted_of us qs
+noted_is ts us ps qs h k = ap (λ xs. noted_of xs ps) h ∙ ap (noted_of us) k
 
 abbrev with_tallies : Noted → List Tally → Noted
 with_tallies noted ts = record noted { tallies = ts }

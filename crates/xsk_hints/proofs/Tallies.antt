@@ -1,10 +1,11 @@
 -- What is told of lines, with one line more.
-use Rattle.std.proofs.Common.{◌≡◌, ◌∙◌, refl, sym, ap, subst, ℕ, zero, suc, ◌+◌, ◌-◌, ◌^◌, ◌==◌, ◌<◌, Bool, true, false, cond, List, [], ◌∷◌, length, arith}
+use Rattle.std.proofs.Common.{◌≡◌, ◌∙◌, refl, ap, ℕ, suc, ◌+◌, ◌==◌, ◌<◌, Bool, true, false, cond, List, [], ◌∷◌, length, arith, ne_eqb}
 use Rattle.std.specs.Prelude.{min, max}
 use Rattle.xsk_side.specs.Setting.{Setting}
+use Rattle.xsk_side.proofs.Rings.{is_false}
 use Rattle.xsk_judge.specs.declared.known.Known.{Known}
 use Rattle.xsk_judge.specs.declared.known.Spot.{Spot}
-use Rattle.xsk_judge.specs.Kept.{spot_by, is_spot}
+use Rattle.xsk_judge.specs.Kept.{is_spot}
 use Rattle.xsk_judge.specs.Stands.{Line, IsKnown, since_of, spot_of}
 use Rattle.xsk_hints.specs.declared.tally.Tally.{Tally}
 use Rattle.xsk_hints.specs.Facts.{since_at}
@@ -23,8 +24,7 @@ not_none : (n : ℕ) (x y : ℕ) → cond (min (suc n) most == 0) x y ≡ y
 not_none n x y = off (min (suc n) most) x y (omega arith)
   where
     off : (m x y : ℕ) → 0 < m → cond (m == 0) x y ≡ y
-    off zero x y h = absurd (omega (arith, h))
-    off (suc m) x y h = refl
+    off m x y h = is_false (m == 0) x y (ne_eqb m 0 (λ e. absurd (omega (arith, h, e))))
 
 first_more : (line : ℕ) (lines : List ℕ) → cond (min (length lines) most == 0) line (min (earliest lines) line) ≡ earliest (line ∷ lines)
 first_more line [] = refl

@@ -1,7 +1,6 @@
 -- The facts of a recording that hints tell: what is possible and surely unwanted (af_xdp.rst, "Rings", "UMEM Fill Ring", "UMEM
 -- Completion Ring", "TX Ring"), and where frames are. Lists have the latest call first; a line's number tells when.
-use Rattle.std.specs.Prelude.{ℕ, zero, suc, ◌+◌, ◌%◌, Bool, true, false, ◌&&◌, ◌==◌, not, if◌then◌else◌, Option, Some, None, List, [], ◌∷◌, ◌++◌}
-use Rattle.std.specs.List.{replicate}
+use Rattle.std.specs.Prelude.{ℕ, zero, suc, replicate, ◌+◌, ◌%◌, Bool, true, false, ◌&&◌, ◌==◌, not, if◌then◌else◌, Option, Some, None, List, [], ◌∷◌, ◌++◌}
 use Rattle.xsk_umem.specs.declared.batch.XdpDesc.{XdpDesc}
 use Rattle.xsk_model.specs.Descriptor.{is_inside, has_bytes, fits_chunk, has_known_options}
 use Rattle.xsk_model.specs.Rings.{is_ring}

@@ -64,7 +64,7 @@ abbrev pub unpeeked : ℕ → ℕ → ℕ → Tally → List ℕ
 unpeeked socket pair peek t =
     if nat_lt peek t.last
     then ring_text (Comp pair) ++ numbered (codes ": not peeked since line ") peek ++ codes ", and frames were submitted on " ++ ring_text (Tx socket)
-        ++ numbered (codes " up to line ") t.last ++ codes "\n"
+    ++ numbered (codes " up to line ") t.last ++ codes "\n"
     else []
 
 abbrev pub tx_lines : Setting → List Line → ℕ → List ℕ

@@ -7,7 +7,7 @@ ghost use Rattle.xsk_judge.specs.Stands.{Line, IsReady, StandsFor};
 ghost use Rattle.xsk_hints.specs.Noted.{IsSized, Notes, index, counted, counted_if, all_counted, odd_in, peek_in, peeked_on};
 ghost use Rattle.xsk_hints.specs.Told.{hints_text};
 
-use crate::oddity::{ODDITIES, Oddity, oddity};
+use crate::oddity::{ODDITIES, Oddity, find_oddity};
 use crate::rings::{push_pairs, push_sockets};
 use crate::tally::{Tally, tally_at};
 use crate::text::push_start;
@@ -55,12 +55,7 @@ impl Hints {
     {
         match call {
             Call::Reserve(ring, _, answer) => self.reserved(setting, line, *ring, *answer),
-            Call::Submit(ring, entries) => self.submitted(
-                setting,
-                line,
-                *ring,
-                entries.as_slice(),
-            ),
+            Call::Submit(ring, entries) => self.submitted(setting, line, *ring, entries.as_slice()),
             Call::Peek(ring, _, _) => self.peeked(line, *ring),
             Call::Free(_, _, _) | Call::Release(_, _) | Call::Cancel(_, _) => {}
         }
@@ -118,13 +113,7 @@ impl Hints {
         if let Answer::Granted = answer {
             return;
         }
-        count(
-            self.tallies.as_mut_slice(),
-            setting,
-            line,
-            ring,
-            Oddity::Refused,
-        );
+        count(&mut self.tallies, setting, line, ring, Oddity::Refused);
     }
 
     fn submitted(&mut self, setting: &Setting, line: u64, ring: Ring, entries: &[XdpDesc])
@@ -135,13 +124,7 @@ impl Hints {
         if !is_told(setting, ring) {
             return;
         }
-        count_all(
-            self.tallies.as_mut_slice(),
-            setting,
-            line,
-            ring,
-            entries,
-        );
+        count_all(&mut self.tallies, setting, line, ring, entries);
     }
 
     fn peeked(&mut self, line: u64, ring: Ring)
@@ -179,20 +162,20 @@ fn place(setting: &Setting, ring: Ring, oddity: Oddity) -> usize
 }
 
 /// Counts a line at which a ring has an oddity.
-fn count(tallies: &mut [Tally], setting: &Setting, line: u64, ring: Ring, oddity: Oddity)
-    requires size { length tallies.old ≡ (length setting.now.pairs + length setting.now.sockets) * 6 }
+fn count(tallies: &mut Vec<Tally>, setting: &Setting, line: u64, ring: Ring, oddity: Oddity)
+    requires size { length tallies.old.items ≡ (length setting.now.pairs + length setting.now.sockets) * 6 }
     requires ring { HasRing setting.now ring }
-    ensures { tallies.new ≡ counted setting.now line ring tallies.old oddity }
+    ensures { tallies.new.items ≡ counted setting.now line ring tallies.old.items oddity }
 {
     let at = place(setting, ring, oddity);
     tallies[at] = tallies[at].with(line);
 }
 
 /// Counts a line at which a ring may have one.
-fn count_if(tallies: &mut [Tally], setting: &Setting, line: u64, ring: Ring, odd: Option<Oddity>)
-    requires size { length tallies.old ≡ (length setting.now.pairs + length setting.now.sockets) * 6 }
+fn count_if(tallies: &mut Vec<Tally>, setting: &Setting, line: u64, ring: Ring, odd: Option<Oddity>)
+    requires size { length tallies.old.items ≡ (length setting.now.pairs + length setting.now.sockets) * 6 }
     requires ring { HasRing setting.now ring }
-    ensures { tallies.new ≡ counted_if setting.now line ring tallies.old odd }
+    ensures { tallies.new.items ≡ counted_if setting.now line ring tallies.old.items odd }
 {
     if let Some(odd) = odd {
         count(tallies, setting, line, ring, odd);
@@ -200,10 +183,16 @@ fn count_if(tallies: &mut [Tally], setting: &Setting, line: u64, ring: Ring, odd
 }
 
 /// Counts a line at which entries are submitted on a ring, for each that has an oddity.
-fn count_all(tallies: &mut [Tally], setting: &Setting, line: u64, ring: Ring, entries: &[XdpDesc])
-    requires size { length tallies.old ≡ (length setting.now.pairs + length setting.now.sockets) * 6 }
+fn count_all(
+    tallies: &mut Vec<Tally>,
+    setting: &Setting,
+    line: u64,
+    ring: Ring,
+    entries: &[XdpDesc],
+)
+    requires size { length tallies.old.items ≡ (length setting.now.pairs + length setting.now.sockets) * 6 }
     requires ring { HasRing setting.now ring }
-    ensures { tallies.new ≡ all_counted setting.now line ring entries.now tallies.old }
+    ensures { tallies.new.items ≡ all_counted setting.now line ring entries.now tallies.old.items }
 {
     for entry in entries {
         count_if(
@@ -211,7 +200,7 @@ fn count_all(tallies: &mut [Tally], setting: &Setting, line: u64, ring: Ring, en
             setting,
             line,
             ring,
-            oddity(setting, ring, *entry),
+            find_oddity(setting, ring, *entry),
         );
     }
 }

@@ -43,7 +43,7 @@ impl Oddity {
 }
 
 /// What an entry has that the program submits on a ring; the first in the order of [`Oddity`].
-pub(crate) fn oddity(setting: &Setting, ring: Ring, entry: XdpDesc) -> Option<Oddity>
+pub(crate) fn find_oddity(setting: &Setting, ring: Ring, entry: XdpDesc) -> Option<Oddity>
     ensures { result ≡ oddity_of setting.now ring entry }
 {
     match ring {

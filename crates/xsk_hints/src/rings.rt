@@ -174,12 +174,7 @@ fn push_shown(
         ": frames of it with the program at the end: ",
         shown,
     )?;
-    push_tally(
-        text,
-        ring,
-        ": frames put back into it at the end: ",
-        back,
-    )
+    push_tally(text, ring, ": frames put back into it at the end: ", back)
 }
 
 /// The oddities of a ring of FILL or TX, each with a line of its own.
@@ -214,12 +209,7 @@ fn push_oddity(
     requires side { made ring ≡ true }
     ensures { (lines : List Line) → Notes setting.now hints.now lines → OnOk result (text.new.items ≡ text.old.items ++ odd_line setting.now lines ring oddity) }
 {
-    push_tally(
-        text,
-        ring,
-        words(oddity),
-        hints.odd(setting, ring, oddity),
-    )
+    push_tally(text, ring, words(oddity), hints.odd(setting, ring, oddity))
 }
 
 fn words(oddity: Oddity) -> &'static str

@@ -34,7 +34,11 @@ impl Tally {
         let more = self.count < u64::MAX;
         Tally {
             count: if more { self.count + 1 } else { self.count },
-            first: if self.count == 0 { line } else { self.first.min(line) },
+            first: if self.count == 0 {
+                line
+            } else {
+                self.first.min(line)
+            },
             last: self.last.max(line),
         }
     }

@@ -47,7 +47,7 @@ line-first (b ∷ bs) rest h = elim (cases_Bool (b == 10)) [
   | inr other ↦ rw other (ap (in_front b) (line-first bs rest (rw other at h)))
 ]
 
-line-next : (line rest : List ℕ) → IsLine line → lines_of (line ++ rest) ≡ line ∷ lines_of rest
+pub line-next : (line rest : List ℕ) → IsLine line → lines_of (line ++ rest) ≡ line ∷ lines_of rest
 line-next line rest is =
     ap (λ (l : List ℕ). lines_of (l ++ rest)) is.1 ∙ ap lines_of (append_assoc is.0 (10 ∷ []) rest) ∙ line-first is.0 rest is.2 ∙ ap (λ (l : List ℕ). l ∷ lines_of rest) (sym is.1)
 
@@ -140,6 +140,7 @@ read-next old new text r piece used rest an_event.Passed stands cut line told (i
 read-next old new text r piece used rest an_event.Passed stands cut line told (inr empty) = record {
   used = used;
   piece_is = cut;
+  line = line-front old.begun used stands.begun line;
   told = goes-then r (old.begun ++ used) r.calls _ _
       (λ n is rest. (stands-line old new text r used n stands (line-front old.begun used stands.begun line) is rest.0 empty, rest.1)) told;
 }
@@ -147,6 +148,7 @@ read-next old new text r piece used rest (an_event.Setting s) stands cut line to
 read-next old new text r piece used rest (an_event.Setting s) stands cut line told (inr empty) = record {
   used = used;
   piece_is = cut;
+  line = line-front old.begun used stands.begun line;
   told = goes-then r (old.begun ++ used) r.calls _ _
       (λ n is rest. (stands-line old new text r used n stands (line-front old.begun used stands.begun line) is rest.0 empty, rest.1, rest.2)) told;
 }
@@ -154,6 +156,7 @@ read-next old new text r piece used rest (an_event.NoSetting error) stands cut l
 read-next old new text r piece used rest (an_event.NoSetting error) stands cut line told (inr empty) = record {
   used = used;
   piece_is = cut;
+  line = line-front old.begun used stands.begun line;
   told = goes-then r (old.begun ++ used) r.calls _ _
       (λ n is rest. (stands-line old new text r used n stands (line-front old.begun used stands.begun line) is rest.0 empty, rest.1, rest.2)) told;
 }
@@ -161,6 +164,7 @@ read-next old new text r piece used rest (an_event.Call call) stands cut line to
 read-next old new text r piece used rest (an_event.Call call) stands cut line told (inr empty) = record {
   used = used;
   piece_is = cut;
+  line = line-front old.begun used stands.begun line;
   told = goes-then r (old.begun ++ used) (record { line = r.lines + 1; call = call } ∷ r.calls) _ _
       (λ n is rest. stands-line old new text r used n stands (line-front old.begun used stands.begun line) is rest empty) told;
 }

@@ -99,6 +99,7 @@ pub record HasFault (text : List ℕ) (r : Read) : Type 0 where
 pub record IsUsed (old new : Reader) (text : List ℕ) (r : Read) (piece : List ℕ) (event : Event) (rest : List ℕ) : Type 0 where
   pub used : List ℕ
   pub piece_is : piece ≡ used ++ rest
+  pub line : IsLine (old.begun ++ used)
   pub told : Tells r (old.begun ++ used) event (StandsFor new (text ++ used))
 
 -- what an event tells of a piece behind the bytes so far; a fault stays one whatever follows

@@ -7,3 +7,4 @@ pub mod Feeding
 pub mod Readers
 pub mod Verdict
 pub mod Laws
+pub mod Counts

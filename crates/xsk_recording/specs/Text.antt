@@ -1,6 +1,6 @@
 -- The text of a recording: the header's lines, and behind them the line of each call. A line has its line feed, and 2,048 bytes at most
--- with it; times don't fall; there are fewer than 2^64 - 1 lines.
-use Rattle.std.specs.Prelude.{ℕ, ◌+◌, ◌-◌, ◌^◌, ◌&&◌, nat_le, nat_lt, if◌then◌else◌, Option, None, Some, List, [], ◌∷◌, length, ◌==◌, Bool, false}
+-- with it; times don't fall; there are 2^58 lines at most.
+use Rattle.std.specs.Prelude.{ℕ, ◌+◌, ◌^◌, ◌&&◌, nat_le, nat_lt, if◌then◌else◌, Option, None, Some, List, [], ◌∷◌, length, ◌==◌, Bool, false}
 use Rattle.xsk_side.specs.declared.call.Call.{Call}
 use Rattle.xsk_lines.specs.Reading.{◌>>=◌}
 use Rattle.xsk_recording.specs.Line.{line_at}
@@ -54,9 +54,9 @@ body_after Calls r xs = line_at xs >>= call_after r
 abbrev pub most_bytes : ℕ
 most_bytes = 2048
 
--- lines are numbered with 64 bits
+-- lines are numbered with 64 bits, and so are addresses that name no frame counted, of which a line has 32 at most
 abbrev pub most_lines : ℕ
-most_lines = 2 ^ 64 - 2
+most_lines = 2 ^ 58
 
 -- a line feed stands at its end
 unfoldable pub ends_line : List ℕ → Bool

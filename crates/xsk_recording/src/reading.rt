@@ -18,7 +18,7 @@ use xsk_umem::{OutOfMemory, XdpDesc};
 const MOST_BYTES: usize = 2048;
 
 /// The most lines of a recording.
-const MOST_LINES: u64 = u64::MAX - 1;
+const MOST_LINES: u64 = 1 << 58;
 
 /// What comes next in a recording.
 #[derive(Debug, Drop)]

@@ -1,4 +1,3 @@
-use Rattle.std.proofs.Common.{ap, ◌∙◌}
 use Rattle.xsk_judge.specs.declared.known.Spot.TheVariants.{First}
 use Rattle.xsk_hints.specs.declared.tally.Tally.{Tally}
 use Rattle.xsk_hints.specs.Told.{start_line, tally_in}

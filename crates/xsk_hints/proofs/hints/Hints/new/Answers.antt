@@ -1,4 +1,4 @@
-use Rattle.std.proofs.Common.{◌+◌, ◌*◌, length, rules, arith}
+use Rattle.std.proofs.Common.{◌+◌, ◌*◌, length, refl, rules}
 use Rattle.xsk_hints.specs.Noted.{Noted}
 use Rattle.xsk_hints.proofs.Counting.{notes_first}
 use Rattle.xsk_hints.proofs.hints.Hints.new.Goals as goal
@@ -6,4 +6,5 @@ use Rattle.xsk_hints.proofs.hints.Hints.new.Goals as goal
 pub returns-clause-notes : goal.returns-clause-notes
 returns-clause-notes c =
     let noted : Noted = record { tallies = c.in_ok-tallies.tallies.items; peeks = c.in_ok-peeks.peeks.items } in
-    notes_first c.args.setting.now noted _ (search (rules, arith)) (search rules) (search rules)
+    let s = c.args.setting.now in
+    notes_first s noted ((length s.pairs + length s.sockets) * 6) refl (search rules) (search rules)

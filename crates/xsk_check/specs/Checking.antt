@@ -1,0 +1,133 @@
+-- A recording that is read in pieces and judged: all bytes that a check has read, and what settles their verdict.
+use Rattle.std.specs.Prelude.{◌≡◌, ℕ, Option, Some, None, List, [], ◌∷◌, ◌++◌, length, map}
+use Rattle.std.specs.Borrow.{Bor}
+use Rattle.xsk_side.specs.Setting.{Setting}
+use Rattle.xsk_judge.specs.Stands.{Line, IsReady as IsReadyJudge, IsWhy, StandsFor as StandsForLines}
+use Rattle.xsk_recording.specs.Text.{Numbered, Read, line_after}
+use Rattle.xsk_recording.specs.Feeding.{Reader, StandsFor as StandsForText, Tells}
+use Rattle.xsk_recording.specs.Verdict.{Begins, IsVerdict}
+use Rattle.xsk_recording.specs.declared.head.Next.{Next}
+use Rattle.xsk_recording.specs.declared.head.Next.TheVariants.{Title, Umem, Pairs, Sockets, Mark, Calls}
+use Rattle.xsk_recording.specs.declared.reading.Event.{Event}
+use Rattle.xsk_recording.specs.declared.reading.Event.TheVariants as an_event
+use Rattle.xsk_recording.specs.declared.verdict.Verdict.{Verdict}
+use Rattle.xsk_recording.specs.declared.verdict.Verdict.TheVariants as a_verdict
+use Rattle.xsk_check.specs.declared.check.Court.{Court}
+use Rattle.xsk_check.specs.declared.finding.Blame.{Blame}
+use Rattle.xsk_check.specs.declared.finding.Finding.{Finding}
+
+-- what a check keeps: what its reader keeps, and, once the setting is told, the judge; and how many calls were judged
+pub record Checked : Type 0 where
+  pub reading : Reader
+  pub court : Option Court
+  pub calls : ℕ
+
+-- the setting, where it is told
+abbrev pub setting_in : Option Court → Option Setting
+setting_in None = None
+setting_in (Some court) = Some court.setting
+
+abbrev pub setting_view : Option (Bor Setting) → Option Setting
+setting_view None = None
+setting_view (Some setting) = Some setting.now
+
+-- ---- what it stands for
+
+-- a call with its line, as the judge has it
+abbrev pub line_of : Numbered → Line
+line_of n = record { line = n.line; call = n.call }
+
+abbrev pub lines_of_calls : List Numbered → List Line
+lines_of_calls calls = map line_of calls
+
+-- the judge is that of the header's setting, and stands for the calls
+abbrev pub Judges : Read → Option Court → Type 0
+Judges r None = ⊥
+Judges r (Some court) = (court.setting ≡ r.header.setting) × IsReadyJudge court.setting court.judge × StandsForLines court.setting court.judge (lines_of_calls r.calls)
+
+-- there is one from the line of the kernel on
+abbrev pub IsHeard : Next → Read → Option Court → Type 0
+IsHeard Title r court = (court ≡ None) × (r.calls ≡ [])
+IsHeard Umem r court = (court ≡ None) × (r.calls ≡ [])
+IsHeard Pairs r court = (court ≡ None) × (r.calls ≡ [])
+IsHeard Sockets r court = (court ≡ None) × (r.calls ≡ [])
+IsHeard Mark r court = Judges r court × (r.calls ≡ [])
+IsHeard Calls r court = Judges r court
+
+pub record Heard (checked : Checked) (r : Read) : Type 0 where
+  pub court : IsHeard r.header.next r checked.court
+  pub calls : checked.calls ≡ length r.calls
+
+-- all bytes were read, and all their calls are possible
+pub record StandsFor (checked : Checked) (text : List ℕ) : Type 0 where
+  pub read : Read
+  pub reads : StandsForText checked.reading text read
+  pub heard : Heard checked read
+
+abbrev pub IsReady : Checked → Type 0
+IsReady checked = (text : List ℕ) × StandsFor checked text
+
+-- ---- what is found
+
+-- the call of a line, and why it isn't possible after those before it
+pub record IsReason (text : List ℕ) (line : ℕ) (blame : Blame) : Type 0 where
+  pub read : Read
+  pub last : List ℕ
+  pub later : List (List ℕ)
+  pub next : Read
+  pub begins : Begins text (last ∷ later) read
+  pub after : line_after read last ≡ Some next
+  pub calls : next.calls ≡ record { line = line; call = blame.call } ∷ read.calls
+  pub why : IsWhy next.header.setting (lines_of_calls read.calls) blame.call blame.why
+
+abbrev pub IsBlamed : List ℕ → Verdict → Option Blame → Type 0
+IsBlamed text a_verdict.Empty blame = blame ≡ None
+IsBlamed text a_verdict.NoCalls blame = blame ≡ None
+IsBlamed text (a_verdict.Possible calls) blame = blame ≡ None
+IsBlamed text (a_verdict.NotPossible line) None = ⊥
+IsBlamed text (a_verdict.NotPossible line) (Some blame) = IsReason text line blame
+IsBlamed text (a_verdict.NoRecording line) blame = blame ≡ None
+IsBlamed text (a_verdict.NoSetting line error) blame = blame ≡ None
+
+abbrev pub IsFound : List ℕ → Finding → Type 0
+IsFound text finding = IsVerdict text finding.verdict × IsBlamed text finding.verdict finding.blame
+
+-- a piece more was read; or a part of it, which settles the verdict whatever follows
+abbrev pub Goes : Checked → List ℕ → List ℕ → Option Finding → Type 0
+Goes new text piece None = StandsFor new (text ++ piece)
+Goes new text piece (Some finding) = (later : List ℕ) → IsFound (text ++ piece ++ later) finding
+
+-- the same where this is left of the piece
+abbrev pub Steps : Checked → List ℕ → List ℕ → List ℕ → Option Finding → Type 0
+Steps new text piece rest None = (used : List ℕ) × (piece ≡ used ++ rest) × StandsFor new (text ++ used)
+Steps new text piece rest (Some finding) = (later : List ℕ) → IsFound (text ++ piece ++ later) finding
+
+-- ---- one line more
+
+-- what an event tells of a line; where a line has begun it tells nothing
+abbrev pub HasTold : Read → List ℕ → Event → Type 0
+HasTold r line an_event.Begun = Unit {0}
+HasTold r line an_event.Passed = Tells r line an_event.Passed (λ next. Unit {0})
+HasTold r line (an_event.Setting s) = Tells r line (an_event.Setting s) (λ next. Unit {0})
+HasTold r line (an_event.NoSetting error) = Tells r line (an_event.NoSetting error) (λ next. Unit {0})
+HasTold r line (an_event.Call call) = Tells r line (an_event.Call call) (λ next. Unit {0})
+HasTold r line an_event.Fault = Tells r line an_event.Fault (λ next. Unit {0})
+
+-- what is found where the line stands behind those that were read
+abbrev pub IsFoundAt : Read → List ℕ → Finding → Type 0
+IsFoundAt r line finding = (text : List ℕ) (later : List (List ℕ)) → Begins text (line ∷ later) r → IsFound text finding
+
+-- what the line comes to: it was read, and what it tells was heard; or it settles the verdict
+abbrev pub Hears : Checked → Read → List ℕ → Event → Option Finding → Type 0
+Hears new r line an_event.Begun None = Heard new r
+Hears new r line an_event.Begun (Some finding) = ⊥
+Hears new r line an_event.Passed None = (next : Read) → line_after r line ≡ Some next → Heard new next
+Hears new r line an_event.Passed (Some finding) = ⊥
+Hears new r line (an_event.Setting s) None = (next : Read) → line_after r line ≡ Some next → Heard new next
+Hears new r line (an_event.Setting s) (Some finding) = ⊥
+Hears new r line (an_event.NoSetting error) None = ⊥
+Hears new r line (an_event.NoSetting error) (Some finding) = IsFoundAt r line finding
+Hears new r line (an_event.Call call) None = (next : Read) → line_after r line ≡ Some next → Heard new next
+Hears new r line (an_event.Call call) (Some finding) = IsFoundAt r line finding
+Hears new r line an_event.Fault None = ⊥
+Hears new r line an_event.Fault (Some finding) = IsFoundAt r line finding

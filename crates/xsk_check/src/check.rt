@@ -1,0 +1,213 @@
+//! The check of a recording: it is read in pieces of any size, and each call is judged.
+ghost use Rattle.std.specs.Prelude.{◌≡◌, ◌≢◌, ◌+◌, ◌<◌, ◌++◌, ◌∷◌, [], ℕ, List, IfErr, IfOk, None, Some, length};
+ghost use Rattle.xsk_recording.specs.Text.{Read};
+ghost use Rattle.xsk_recording.specs.Counts.{IsCounted};
+ghost use Rattle.xsk_recording.specs.Verdict.{IsVerdict};
+ghost use Rattle.xsk_judge.specs.Stands.{Line, IsReady as IsReadyJudge, IsWhy, StandsFor as StandsForLines};
+ghost use Rattle.xsk_check.specs.Checking.{Goes, HasTold, Heard, Hears, IsReady, StandsFor, Steps, setting_in, setting_view};
+
+use crate::finding::{Blame, Finding};
+use std::alloc::Global;
+use std::marker::Model;
+use xsk_judge::{Judge, Why};
+use xsk_recording::{Event, Reading, Verdict};
+use xsk_side::{Call, Setting};
+use xsk_umem::OutOfMemory;
+
+/// The setting of a recording's header, and the judge of its calls.
+#[derive(Drop)]
+pub(crate) struct Court {
+    setting: Setting,
+    judge: Judge,
+}
+
+/// A recording that is read in pieces and judged. It keeps what its reader and its judge keep, and a copy of a begun line.
+#[derive(Drop)]
+pub struct Check {
+    alloc: Global,
+    reading: Reading,
+    court: Option<Court>,
+    calls: u64,
+    line: Vec<u8>,
+}
+
+impl Model for Check {
+    ghost use Rattle.xsk_check.specs.Checking.{Checked};
+
+    ghost Value = { Checked };
+
+    ghost view = { λ c. record { reading = c.reading; court = c.court; calls = c.calls } };
+}
+
+impl Check {
+    /// Before the first byte.
+    pub fn new(alloc: Global) -> Check
+        ensures { StandsFor result [] }
+    {
+        Check {
+            alloc,
+            reading: Reading::new(alloc),
+            court: None,
+            calls: 0,
+            line: Vec::new(alloc),
+        }
+    }
+
+    /// The verdict where the text ends here.
+    pub fn verdict(&self) -> Verdict
+        ensures { (text : List ℕ) → StandsFor self.now text → IsVerdict text result }
+    {
+        self.reading.verdict(self.calls)
+    }
+
+    /// The setting, once the header's line of the kernel was read.
+    pub fn setting(&self) -> Option<&Setting>
+        ensures { setting_view result ≡ setting_in self.now.court }
+    {
+        match &self.court {
+            Some(court) => Some(&court.setting),
+            None => None,
+        }
+    }
+
+    /// The line of a finding, up to its line feed where it has one.
+    pub fn line(&self) -> &[u8] {
+        self.line.as_slice()
+    }
+
+    /// Reads a piece, up to a line that settles the verdict. After such a finding and after an error nothing more may be read.
+    pub fn read(&mut self, piece: &[u8]) -> Result<Option<Finding>, OutOfMemory>
+        requires { IsReady self.old }
+        ensures { IfOk result (λ found. (text : List ℕ) → StandsFor self.old text → Goes self.new text piece.now found) }
+    {
+        let mut rest = piece;
+        for _line in 0..piece.len() {
+            if rest.is_empty() {
+                return Ok(None);
+            }
+            let (found, later) = self.step(rest)?;
+            if found.is_some() {
+                return Ok(found);
+            }
+            rest = later;
+        }
+        Ok(None)
+    }
+
+    /// Reads a piece up to the end of its first line, and gives the rest of it.
+    fn step<'a>(&mut self, piece: &'a [u8]) -> Result<(Option<Finding>, &'a [u8]), OutOfMemory>
+        requires ready { IsReady self.old }
+        requires some { piece.now ≢ [] }
+        ensures told { IfOk result (λ told. (text : List ℕ) → StandsFor self.old text → Steps self.new text piece.now told.1.now told.0) }
+        ensures shorter { IfOk result (λ told. length told.1.now < length piece.now) }
+    {
+        let line = self.reading.lines() + 1;
+        let (event, rest) = self.reading.read(piece)?;
+        let found = self.hear(line, event)?;
+        self.keep(&piece[..piece.len() - rest.len()], found.is_some())?;
+        Ok((found, rest))
+    }
+
+    /// Keeps a part of a line that goes on, or of one that settles the verdict, and else forgets the line.
+    fn keep(&mut self, part: &[u8], settled: bool) -> Result<(), OutOfMemory>
+        ensures { self.new ≡ self.old }
+    {
+        if settled || !has_ended(part) {
+            self.line.extend_from_slice(part)?;
+        } else {
+            self.line.clear();
+        }
+        Ok(())
+    }
+
+    /// What an event of the line of this number comes to.
+    fn hear(&mut self, line: u64, event: Event) -> Result<Option<Finding>, OutOfMemory>
+        requires { (r : Read) × (xs : List ℕ) × Heard self.old r × IsCounted r × (line ≡ r.lines + 1) × HasTold r xs event }
+        ensures reading { self.new.reading ≡ self.old.reading }
+        ensures heard { IfOk result (λ found. (r : Read) (xs : List ℕ) → Heard self.old r → IsCounted r → line ≡ r.lines + 1 → HasTold r xs event
+            → Hears self.new r xs event found) }
+    {
+        match event {
+            Event::Begun => Ok(None),
+            Event::Passed => Ok(None),
+            Event::Setting(setting) => {
+                let judge = Judge::new(self.alloc, &setting)?;
+                self.court = Some(Court { setting, judge });
+                Ok(None)
+            }
+            Event::NoSetting(error) => Ok(Some(settled(Verdict::NoSetting { line, error }))),
+            Event::Call(call) => Ok(self.judge(line, call)),
+            Event::Fault => Ok(Some(settled(Verdict::NoRecording { line }))),
+        }
+    }
+
+    /// Judges the call of a line.
+    fn judge(&mut self, line: u64, call: Call) -> Option<Finding>
+        requires { (r : Read) × (xs : List ℕ) × Heard self.old r × IsCounted r × (line ≡ r.lines + 1) × HasTold r xs (Event.Call call) }
+        ensures reading { self.new.reading ≡ self.old.reading }
+        ensures heard { (r : Read) (xs : List ℕ) → Heard self.old r → IsCounted r → line ≡ r.lines + 1 → HasTold r xs (Event.Call call)
+            → Hears self.new r xs (Event.Call call) result }
+    {
+        match &mut self.court {
+            Some(court) => match step(court, line, &call) {
+                Ok(()) => {}
+                Err(why) => return Some(blamed(line, call, why)),
+            },
+            None => unreachable!(),
+        }
+        self.calls += 1;
+        self.reading.give_back(call);
+        None
+    }
+}
+
+/// Whether a line ends with this part.
+fn has_ended(part: &[u8]) -> bool {
+    match part.last() {
+        Some(byte) => *byte == b'\n',
+        None => false,
+    }
+}
+
+/// The judge judges the next call.
+fn step(court: &mut Court, line: u64, call: &Call) -> Result<(), Why>
+    requires { IsReadyJudge court.old.setting court.old.judge }
+    ensures setting { court.new.setting ≡ court.old.setting }
+    ensures ready { IfOk result (λ _. IsReadyJudge court.new.setting court.new.judge) }
+    ensures stands { IfOk result (λ _. (lines : List Line) → StandsForLines court.old.setting court.old.judge lines
+        → StandsForLines court.new.setting court.new.judge (record { line = line; call = call.now } ∷ lines)) }
+    ensures why { IfErr result (λ why. (lines : List Line) → StandsForLines court.old.setting court.old.judge lines → IsWhy court.old.setting lines call.now why) }
+{
+    court.judge.step(&court.setting, line, call)
+}
+
+/// A verdict that no call is blamed for.
+fn settled(verdict: Verdict) -> Finding
+    ensures { result ≡ record { verdict = verdict; blame = None } }
+{
+    Finding {
+        verdict,
+        blame: None,
+    }
+}
+
+/// The verdict that the call of this line isn't possible.
+fn blamed(line: u64, call: Call, why: Why) -> Finding
+    ensures { result ≡ record { verdict = Verdict.NotPossible line; blame = Some (record { call = call; why = why }) } }
+{
+    Finding {
+        verdict: Verdict::NotPossible { line },
+        blame: Some(Blame { call, why }),
+    }
+}
+
+/// The verdict of a recording that is there whole.
+pub fn verdict_of(alloc: Global, text: &[u8]) -> Result<Verdict, OutOfMemory>
+    ensures { IfOk result (IsVerdict text.now) }
+{
+    let mut check = Check::new(alloc);
+    match check.read(text)? {
+        Some(finding) => Ok(finding.verdict),
+        None => Ok(check.verdict()),
+    }
+}
