@@ -5,7 +5,7 @@ use std::alloc::{AllocError, Global};
 use xsk_args::{OptionRow, Takes};
 use xsk_cli::options::{LAYOUT, ROUNDS, RUN, THREADS};
 
-/// The program with its four commands. None has a help option of clap's own.
+/// The program with its five commands. None has a help option of clap's own.
 pub(crate) fn program<'a>(alloc: Global) -> Result<Command<'a>, AllocError> {
     let audit = with_options(alloc, bare(alloc, "audit"), &LAYOUT)?.arg(files(alloc))?;
     bare(alloc, "xsk")
@@ -14,7 +14,8 @@ pub(crate) fn program<'a>(alloc: Global) -> Result<Command<'a>, AllocError> {
         .subcommand(run(alloc, "simulate", &ROUNDS)?)?
         .subcommand(run(alloc, "forward", &THREADS)?)?
         .subcommand(made(alloc)?)?
-        .subcommand(audit)
+        .subcommand(audit)?
+        .subcommand(checked(alloc)?)
 }
 
 /// A command without options.
@@ -43,6 +44,14 @@ fn made<'a>(alloc: Global) -> Result<Command<'a>, AllocError> {
         .required(true)
         .action(ArgAction::Set);
     bare(alloc, "gen").arg(number)?.arg(file)
+}
+
+/// `check`, which has no options.
+fn checked<'a>(alloc: Global) -> Result<Command<'a>, AllocError> {
+    let file = Arg::new(alloc, "FILE")
+        .required(true)
+        .action(ArgAction::Set);
+    bare(alloc, "check").arg(file)
 }
 
 fn files<'a>(alloc: Global) -> Arg<'a> {

@@ -13,6 +13,7 @@ usage: xsk simulate|forward [OPTION ..] IN0 IN1 .. OUT0 OUT1 ..
        xsk simulate|forward --pcapng [OPTION ..] IN OUT
        xsk gen N FILE
        xsk audit [OPTION ..] FILE
+       xsk check FILE
 ";
 
 const COMMANDS: &str = "
@@ -20,11 +21,12 @@ const COMMANDS: &str = "
   forward   does so with each driver and each application in a thread of its own
   gen       writes a capture of the packets that are made of a number
   audit     tells the first line of a journal that isn't of a legal history of the rings
+  check     tells the first call of a program's recording that isn't possible, and why
 ";
 
 const STATUSES: &str = "
 Exit status, and the line on standard output:
-  0   all was read and written
+  0   all was read and written; of a check: possible CALLS
   2   usage: the words are no command
   3   bad capture PORT ..: a capture is refused
   4   read fault PORT: an input couldn't be read
@@ -36,6 +38,8 @@ Exit status, and the line on standard output:
   10  out of memory
   12  bad pcapng ..: a pcapng file is refused
   13  not legal LINE: a journal isn't legal from this line on
+  14  not possible LINE: a recording's call of this line isn't possible, for the reason behind it
+  15  no recording LINE, no setting LINE .., no calls, empty: the file is no recording that could be judged
 
 docs/USAGE.md has the rest.
 ";

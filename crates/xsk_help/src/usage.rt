@@ -43,6 +43,7 @@ fn says(words: &[String], long: &str, short: &str) -> bool {
 fn push_fault(alloc: Global, text: &mut String, words: &[String]) -> Result<(), AllocError> {
     match program(alloc)?.try_get_matches_from(words) {
         Ok(matches) => match matches.subcommand() {
+            Some(("check", _said)) => text.push_str("check wants one file"),
             Some((_name, said)) => push_misfit(text, said),
             None => Ok(()),
         },

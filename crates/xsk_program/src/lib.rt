@@ -1,19 +1,42 @@
 //! The program: the words behind its name, and what the commands answer them.
 #![tactic(auto)]
 
-ghost use Rattle.std.specs.Prelude.{map, string_bytes, MatchResult};
+ghost use Rattle.std.specs.Prelude.{◌≡◌, map, string_bytes, MatchResult};
+ghost use Rattle.std.specs.Process.{exit_status};
 ghost use Rattle.xsk_io.specs.Bay.{NoneOpen};
-ghost use Rattle.xsk_program.specs.Answering.{IsAnswered, IsTold};
+ghost use Rattle.xsk_program.specs.Answering.{answer_status, IsAnsweredSo, IsTold};
 
 use std::alloc::Global;
 use std::env;
 use std::io::ErrorKind;
+use std::process::ExitCode;
 use std::rt::Env;
 use std::sync::Wait;
 use std::thread::Threads;
+use xsk_checking::{Checkup, is_check, run_check};
 use xsk_cli::{Ended, Status, tell};
 use xsk_gate::Open;
 use xsk_io::Bay;
+
+/// How the program's command ended.
+pub enum Answer {
+    /// That of a command that makes a run, packets or an audit.
+    Ran(Ended),
+    /// That of `check`.
+    Checked(Checkup),
+}
+
+impl Answer {
+    /// The exit status of a program that ends so. What a run shows is given up.
+    pub fn into_exit_code(self, rt: &HostRuntime) -> ExitCode
+        ensures { exit_status result ≡ answer_status self }
+    {
+        match self {
+            Answer::Ran(ended) => ended.into_exit_code(rt),
+            Answer::Checked(checkup) => ExitCode::from(checkup.end),
+        }
+    }
+}
 
 /// Does what words say, over a bay of which no stream is open, with a thread for each worker where the command is `forward`, or
 /// tells why there are none. A refusal is told in one line to the report. No worker is held at a gate.
@@ -22,22 +45,38 @@ pub fn answer<R: Threads + Wait + Sync, B: Bay>(
     alloc: Global,
     words: Result<Vec<String>, Status>,
     bay: &mut B,
-) -> Ended
+) -> Answer
     requires { NoneOpen (B.moment bay.old) }
     ensures { MatchResult words
-        (λ given. IsAnswered (map string_bytes given.items) (B.moment bay.old) (B.moment bay.new) result)
+        (λ given. IsAnsweredSo (map string_bytes given.items) (B.moment bay.old) (B.moment bay.new) result)
         (λ why. IsTold why (B.moment bay.old) (B.moment bay.new) result) }
 {
     match words {
-        Ok(words) => xsk_cli::run(rt, alloc, words.as_slice(), bay, &Open),
+        Ok(words) => answer_words(rt, alloc, words.as_slice(), bay),
         Err(status) => {
             tell(bay, &status);
-            Ended {
+            Answer::Ran(Ended {
                 status,
                 outcome: None,
-            }
+            })
         }
     }
+}
+
+/// Does what words say.
+fn answer_words<R: Threads + Wait + Sync, B: Bay>(
+    rt: &R,
+    alloc: Global,
+    words: &[String],
+    bay: &mut B,
+) -> Answer
+    requires { NoneOpen (B.moment bay.old) }
+    ensures { IsAnsweredSo (map string_bytes words.now) (B.moment bay.old) (B.moment bay.new) result }
+{
+    if is_check(words) {
+        return Answer::Checked(run_check(alloc, words, bay));
+    }
+    Answer::Ran(xsk_cli::run(rt, alloc, words, bay, &Open))
 }
 
 /// The words behind the program's name. One that isn't UTF-8 is a faulty command line.
