@@ -4,7 +4,7 @@
 use std::process::ExitCode;
 use xsk_help::{explain, explain_check};
 use xsk_io::FileBay;
-use xsk_program::{Answer, answer, words_of};
+use xsk_program::{Answered, answer, words_of};
 
 /// Does what the program's words say, over files, and ends with the status of the answer. What standard error tells beside is told
 /// once the answer is there.
@@ -12,8 +12,8 @@ fn main(rt: HostRuntime) -> ExitCode {
     let mut bay = FileBay::new(&rt);
     let answered = answer(&rt, rt.alloc(), words_of(&rt), &mut bay);
     match &answered {
-        Answer::Ran(ended) => explain(&rt, words_of(&rt), &ended.status),
-        Answer::Checked(checkup) => explain_check(&rt, words_of(&rt), checkup),
+        Answered::Ran(ended) => explain(&rt, words_of(&rt), &ended.status),
+        Answered::Checked(checkup) => explain_check(&rt, words_of(&rt), checkup),
     }
     answered.into_exit_code(&rt)
 }

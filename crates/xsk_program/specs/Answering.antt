@@ -11,8 +11,8 @@ use Rattle.xsk_cli.specs.Streams.{GotLine, HasLine}
 use Rattle.xsk_cli.specs.Words.{plan_of}
 use Rattle.xsk_cli.specs.declared.status.Status.{Status}
 use Rattle.xsk_cli.specs.declared.threads.Ended.{Ended}
-use Rattle.xsk_program.specs.declared.Answer.{Answer}
-use Rattle.xsk_program.specs.declared.Answer.TheVariants.{Ran, Checked}
+use Rattle.xsk_program.specs.declared.Answered.{Answered}
+use Rattle.xsk_program.specs.declared.Answered.TheVariants.{Ran, Checked}
 
 -- as the commands answer these words: `forward` with what its run on threads shows, where one has ended, and every other on one
 -- thread, which doesn't stall with ample room
@@ -24,7 +24,7 @@ pub record IsAnswered (words : List Text) (old new : Moment) (ended : Ended) : T
   pub threads : is_forward words ≡ true → IsShownAnswer ended.outcome (forward_plan words) old new ended.status
 
 -- `check` as it answers, and every other command as those
-abbrev pub IsAnsweredSo : List Text → Moment → Moment → Answer → Type 0
+abbrev pub IsAnsweredSo : List Text → Moment → Moment → Answered → Type 0
 IsAnsweredSo words old new (Ran ended) = (is_check words ≡ false) × IsAnswered words old new ended
 IsAnsweredSo words old new (Checked checkup) = (is_check words ≡ true) × IsCheckAnswer (file_in words) old new checkup.end
 
@@ -34,12 +34,12 @@ pub record IsToldBy (why : Status) (old new : Moment) (ended : Ended) : Type 0 w
   pub no_threads : ended.outcome ≡ None
   pub line : HasLine why → GotLine (line_of why) old new
 
-abbrev pub IsTold : Status → Moment → Moment → Answer → Type 0
+abbrev pub IsTold : Status → Moment → Moment → Answered → Type 0
 IsTold why old new (Ran ended) = IsToldBy why old new ended
 IsTold why old new (Checked checkup) = ⊥
 
 -- ---- statuses
 
-abbrev pub answer_status : Answer → ℕ
+abbrev pub answer_status : Answered → ℕ
 answer_status (Ran ended) = exit_status_of ended.status
 answer_status (Checked checkup) = end_status checkup.end

@@ -19,21 +19,21 @@ use xsk_gate::Open;
 use xsk_io::Bay;
 
 /// How the program's command ended.
-pub enum Answer {
+pub enum Answered {
     /// That of a command that makes a run, packets or an audit.
     Ran(Ended),
     /// That of `check`.
     Checked(Checkup),
 }
 
-impl Answer {
+impl Answered {
     /// The exit status of a program that ends so. What a run shows is given up.
     pub fn into_exit_code(self, rt: &HostRuntime) -> ExitCode
         ensures { exit_status result ≡ answer_status self }
     {
         match self {
-            Answer::Ran(ended) => ended.into_exit_code(rt),
-            Answer::Checked(checkup) => ExitCode::from(checkup.end),
+            Answered::Ran(ended) => ended.into_exit_code(rt),
+            Answered::Checked(checkup) => ExitCode::from(checkup.end),
         }
     }
 }
@@ -45,7 +45,7 @@ pub fn answer<R: Threads + Wait + Sync, B: Bay>(
     alloc: Global,
     words: Result<Vec<String>, Status>,
     bay: &mut B,
-) -> Answer
+) -> Answered
     requires { NoneOpen (B.moment bay.old) }
     ensures { MatchResult words
         (λ given. IsAnsweredSo (map string_bytes given.items) (B.moment bay.old) (B.moment bay.new) result)
@@ -55,7 +55,7 @@ pub fn answer<R: Threads + Wait + Sync, B: Bay>(
         Ok(words) => answer_words(rt, alloc, words.as_slice(), bay),
         Err(status) => {
             tell(bay, &status);
-            Answer::Ran(Ended {
+            Answered::Ran(Ended {
                 status,
                 outcome: None,
             })
@@ -69,14 +69,14 @@ fn answer_words<R: Threads + Wait + Sync, B: Bay>(
     alloc: Global,
     words: &[String],
     bay: &mut B,
-) -> Answer
+) -> Answered
     requires { NoneOpen (B.moment bay.old) }
     ensures { IsAnsweredSo (map string_bytes words.now) (B.moment bay.old) (B.moment bay.new) result }
 {
     if is_check(words) {
-        return Answer::Checked(run_check(alloc, words, bay));
+        return Answered::Checked(run_check(alloc, words, bay));
     }
-    Answer::Ran(xsk_cli::run(rt, alloc, words, bay, &Open))
+    Answered::Ran(xsk_cli::run(rt, alloc, words, bay, &Open))
 }
 
 /// The words behind the program's name. One that isn't UTF-8 is a faulty command line.
