@@ -11,8 +11,8 @@ use Rattle.xsk_cli.specs.Streams.{GotLine, HasLine}
 use Rattle.xsk_cli.specs.Words.{plan_of}
 use Rattle.xsk_cli.specs.declared.status.Status.{Status}
 use Rattle.xsk_cli.specs.declared.threads.Ended.{Ended}
-use Rattle.xsk_program.specs.declared.Answered.{Answered}
-use Rattle.xsk_program.specs.declared.Answered.TheVariants.{Ran, Checked}
+use Rattle.xsk_program.specs.declared.answered.Answered.{Answered}
+use Rattle.xsk_program.specs.declared.answered.Answered.TheVariants.{Ran, Checked}
 
 -- as the commands answer these words: `forward` with what its run on threads shows, where one has ended, and every other on one
 -- thread, which doesn't stall with ample room

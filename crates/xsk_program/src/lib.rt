@@ -1,42 +1,24 @@
 //! The program: the words behind its name, and what the commands answer them.
 #![tactic(auto)]
 
-ghost use Rattle.std.specs.Prelude.{◌≡◌, map, string_bytes, MatchResult};
-ghost use Rattle.std.specs.Process.{exit_status};
+ghost use Rattle.std.specs.Prelude.{map, string_bytes, MatchResult};
 ghost use Rattle.xsk_io.specs.Bay.{NoneOpen};
-ghost use Rattle.xsk_program.specs.Answering.{answer_status, IsAnsweredSo, IsTold};
+ghost use Rattle.xsk_program.specs.Answering.{IsAnsweredSo, IsTold};
+
+mod answered;
+
+pub use answered::Answered;
 
 use std::alloc::Global;
 use std::env;
 use std::io::ErrorKind;
-use std::process::ExitCode;
 use std::rt::Env;
 use std::sync::Wait;
 use std::thread::Threads;
-use xsk_checking::{Checkup, is_check, run_check};
+use xsk_checking::{is_check, run_check};
 use xsk_cli::{Ended, Status, tell};
 use xsk_gate::Open;
 use xsk_io::Bay;
-
-/// How the program's command ended.
-pub enum Answered {
-    /// That of a command that makes a run, packets or an audit.
-    Ran(Ended),
-    /// That of `check`.
-    Checked(Checkup),
-}
-
-impl Answered {
-    /// The exit status of a program that ends so. What a run shows is given up.
-    pub fn into_exit_code(self, rt: &HostRuntime) -> ExitCode
-        ensures { exit_status result ≡ answer_status self }
-    {
-        match self {
-            Answered::Ran(ended) => ended.into_exit_code(rt),
-            Answered::Checked(checkup) => ExitCode::from(checkup.end),
-        }
-    }
-}
 
 /// Does what words say, over a bay of which no stream is open, with a thread for each worker where the command is `forward`, or
 /// tells why there are none. A refusal is told in one line to the report. No worker is held at a gate.
