@@ -2,7 +2,7 @@
  *
  * Slices cross as a pointer and a length, and no pointer is null, even where the length is 0. What a call fills is written where it
  * says so, and nowhere else. A handle is used by one call at a time, and by one thread, or under a lock; never in a signal's handler.
- * The program gives malloc, realloc and free from one allocator, and links libc's part of the kit (c/README).
+ * The program gives malloc, realloc and free from one allocator, and links libc's part of the kit (docs/C.md).
  *
  * Numbers. A pair is a port's queue, with its FILL and COMPLETION ring and its driver: pair = port * queues + queue. A socket has RX
  * and TX: socket = pair * sockets + class. An application has one queue of two paired ports (0 and 1, 2 and 3), with all rings there:
