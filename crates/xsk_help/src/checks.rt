@@ -14,11 +14,7 @@ use xsk_recording::Verdict;
 const PIECE: usize = 65_536;
 
 /// What is told of how a check ended. It is nothing, where its report says all.
-pub(crate) fn check_text(
-    alloc: Global,
-    words: &[String],
-    end: End,
-) -> Result<String, AllocError> {
+pub(crate) fn check_text(alloc: Global, words: &[String], end: End) -> Result<String, AllocError> {
     let name = match words.get(1) {
         Some(name) => name.as_str(),
         None => "",

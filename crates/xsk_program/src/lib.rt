@@ -8,7 +8,6 @@ ghost use Rattle.xsk_program.specs.Answering.{IsAnsweredSo, IsTold};
 mod answered;
 
 pub use answered::Answered;
-
 use std::alloc::Global;
 use std::env;
 use std::io::ErrorKind;
