@@ -1,13 +1,13 @@
 //! What is told of a check beside its report: a line of its file, and why it failed.
 
 use crate::usage::usage_text;
-use memchr::memchr;
 use std::alloc::{AllocError, Global};
 use std::fmt::Write as FmtWrite;
 use std::fs::{self, File};
 use std::io::{self, Read, Write};
 use std::rt::Files;
 use xsk_checking::{End, Failure};
+use xsk_lines::first_line;
 use xsk_recording::Verdict;
 
 /// How many bytes are read at once.
@@ -74,7 +74,8 @@ fn line_of<R: Files>(rt: &R, alloc: Global, name: &str, line: u64) -> Option<Vec
         if count == 0 {
             return None;
         }
-        if take_line(&piece[..count], &mut at, line, &mut text)? {
+        let part = piece.as_slice().get(..count)?;
+        if take_line(part, &mut at, line, &mut text)? {
             return Some(text);
         }
     }
@@ -85,14 +86,14 @@ fn line_of<R: Files>(rt: &R, alloc: Global, name: &str, line: u64) -> Option<Vec
 fn take_line(piece: &[u8], at: &mut u64, line: u64, text: &mut Vec<u8>) -> Option<bool> {
     let mut rest = piece;
     for _line in 0..piece.len() {
-        let (part, later, is_whole) = match memchr(b'\n', rest) {
-            Some(end) => (&rest[..end + 1], &rest[end + 1..], true),
-            None => (rest, &rest[rest.len()..], false),
-        };
+        if rest.is_empty() {
+            return Some(false);
+        }
+        let (part, later) = first_line(rest);
         if *at == line {
             text.extend_from_slice(part).ok()?;
         }
-        if !is_whole {
+        if !has_ended(part) {
             return Some(false);
         }
         if *at == line {
@@ -102,4 +103,12 @@ fn take_line(piece: &[u8], at: &mut u64, line: u64, text: &mut Vec<u8>) -> Optio
         rest = later;
     }
     Some(false)
+}
+
+/// Whether a line ends with this part.
+fn has_ended(part: &[u8]) -> bool {
+    match part.last() {
+        Some(byte) => *byte == b'\n',
+        None => false,
+    }
 }
