@@ -75,13 +75,14 @@ enum xsk_c_answer {
 	/* A call isn't legal after this application's own calls and replies: the first of these conditions that fails, in this order. */
 	XSK_C_NO_CALLER = 16, /* there is no such application */
 	XSK_C_UNKNOWN,	      /* there is no such ring or mark */
-	XSK_C_NOT_ITS_OWN,    /* it is another's, or isn't to be set now */
+	XSK_C_NOT_ITS_OWN,    /* it isn't the application's own */
 	XSK_C_COUNT,	      /* the number isn't from 1 to 32, or none that the mark can have */
 	XSK_C_PLACES,	      /* fewer places are reserved, or fewer items were peeked */
 	XSK_C_ITEMS,	      /* an item may not stand in the ring: on FILL an address alone, without length and options */
 	XSK_C_FRAMES,	      /* the application doesn't have these frames */
 	XSK_C_PACKETS,
 	XSK_C_ENDED,
+	XSK_C_NOT_NOW, /* the mark may not be set to this number now: in order it stands behind XSK_C_NOT_ITS_OWN */
 
 	/* A layout is refused: the first of these that fails, in this order. */
 	XSK_C_BAD_PORTS = 32,

@@ -437,12 +437,13 @@ uint32_t xsk_c_journal(struct xsk_c *h, uint32_t from, uint8_t *out, size_t out_
 uint32_t xsk_c_why(uint32_t answer, uint8_t *out, size_t out_len, uint64_t *len)
 {
 	static const char *const texts[] = {"there is no such caller", "there is no such ring or mark",
-		"it is another caller's, or isn't to be set now", "the number isn't from 1 to 32, or none that the mark can have",
+		"it isn't the caller's own", "the number isn't from 1 to 32, or none that the mark can have",
 		"fewer places are reserved, or fewer items were peeked", "an item may not stand in the ring",
-		"the caller doesn't have these frames", "the items aren't the packets that may stand there", "the ring was ended"};
+		"the caller doesn't have these frames", "the items aren't the packets that may stand there", "the ring was ended",
+		"the mark may not be set to this number now"};
 	char other[40];
 	const char *text = other;
-	if (answer >= XSK_C_NO_CALLER && answer <= XSK_C_ENDED)
+	if (answer >= XSK_C_NO_CALLER && answer <= XSK_C_NOT_NOW)
 		text = texts[answer - XSK_C_NO_CALLER];
 	else
 		snprintf(other, sizeof other, "answer %u", answer);

@@ -14,7 +14,8 @@ use Rattle.xsk_audit.specs.declared.reasons.Reason.TheVariants.{Form, Call, Fram
 abbrev pub condition_text : Illegal → List ℕ
 condition_text illegal.NoCaller = codes "there is no such caller\n"
 condition_text illegal.Unknown = codes "there is no such ring or mark\n"
-condition_text illegal.NotItsOwn = codes "the ring or mark is another caller's, or isn't to be set now\n"
+condition_text illegal.NotItsOwn = codes "the ring or mark isn't the caller's own\n"
+condition_text illegal.NotNow = codes "the mark may not be set to this number now\n"
 condition_text illegal.Count = codes "the number isn't from 1 to 32, or none that the mark can have\n"
 condition_text illegal.Places = codes "the caller reserved fewer places, or peeked fewer items\n"
 condition_text illegal.Items = codes "an item may not stand in this ring\n"
@@ -40,6 +41,7 @@ abbrev pub where_frames : Illegal → List ℕ → List ℕ
 where_frames illegal.NoCaller text = []
 where_frames illegal.Unknown text = []
 where_frames illegal.NotItsOwn text = []
+where_frames illegal.NotNow text = []
 where_frames illegal.Count text = []
 where_frames illegal.Places text = []
 where_frames illegal.Items text = []

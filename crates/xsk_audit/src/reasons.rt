@@ -79,6 +79,7 @@ fn push_call(
         Illegal::NoCaller
         | Illegal::Unknown
         | Illegal::NotItsOwn
+        | Illegal::NotNow
         | Illegal::Count
         | Illegal::Places
         | Illegal::Items
@@ -94,7 +95,8 @@ fn condition(why: Illegal) -> &'static str
     match why {
         Illegal::NoCaller => "there is no such caller\n",
         Illegal::Unknown => "there is no such ring or mark\n",
-        Illegal::NotItsOwn => "the ring or mark is another caller's, or isn't to be set now\n",
+        Illegal::NotItsOwn => "the ring or mark isn't the caller's own\n",
+        Illegal::NotNow => "the mark may not be set to this number now\n",
         Illegal::Count => "the number isn't from 1 to 32, or none that the mark can have\n",
         Illegal::Places => "the caller reserved fewer places, or peeked fewer items\n",
         Illegal::Items => "an item may not stand in this ring\n",

@@ -21,6 +21,7 @@ condition_number condition.Items = 21
 condition_number condition.Frames = 22
 condition_number condition.Packets = 23
 condition_number condition.Ended = 24
+condition_number condition.NotNow = 25
 
 -- why a layout is refused
 abbrev pub fault_number : Unlawful → ℕ

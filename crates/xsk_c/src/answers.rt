@@ -47,6 +47,7 @@ pub(crate) fn number_of_condition(why: Illegal) -> u32
         Illegal::Frames => 22,
         Illegal::Packets => 23,
         Illegal::Ended => 24,
+        Illegal::NotNow => 25,
     }
 }
 
@@ -64,6 +65,7 @@ pub(crate) fn condition_of(answer: u32) -> Option<Illegal>
         22 => Some(Illegal::Frames),
         23 => Some(Illegal::Packets),
         24 => Some(Illegal::Ended),
+        25 => Some(Illegal::NotNow),
         _ => None,
     }
 }

@@ -2,14 +2,30 @@
 use Rattle.std.proofs.Common.{◌≡◌, ℕ, ◌≤◌, List, length, map, sym, subst}
 use Rattle.xsk_model.specs.Config.{Config}
 use Rattle.xsk_model.specs.Entry.{Told}
-use Rattle.xsk_model.specs.Legal.{IsLegal, IsCounted}
+use Rattle.xsk_model.specs.Legal.{IsLegal, HasRole, IsCounted}
 use Rattle.xsk_model.specs.OtherWords.{bare}
 use Rattle.xsk_model.proofs.Bodies.{same_role, same_counted, same_frames, same_packets, same_feeds, same_room, same_held}
 use Rattle.xsk_model.specs.declared.call.Call.{Call}
 use Rattle.xsk_model.specs.declared.call.Call.TheVariants.{Reserve, Submit, Peek, Release, Swap, Look}
 use Rattle.xsk_legal.specs.declared.why.Illegal.{Illegal}
-use Rattle.xsk_legal.specs.declared.why.Illegal.TheVariants.{NoCaller, Unknown, NotItsOwn, Count, Places, Items, Frames, Packets, Ended}
-use Rattle.xsk_legal.specs.Why.{Fails, IsFew, HasPlaces, UpToRole, UpToCount, UpToFrames}
+use Rattle.xsk_legal.specs.declared.why.Illegal.TheVariants.{NoCaller, Unknown, NotItsOwn, NotNow, Count, Places, Items, Frames, Packets, Ended}
+use Rattle.xsk_legal.specs.Why.{Fails, IsItsOwn, IsInTime, IsFew, HasPlaces, UpToRole, UpToCount, UpToFrames}
+
+its_own : (c : Config) (mine : List Told) (who : ℕ) (call : Call) → HasRole c mine who call → IsItsOwn c who call
+its_own c mine who (Reserve r n) role = role
+its_own c mine who (Submit r items) role = role
+its_own c mine who (Peek r n) role = role
+its_own c mine who (Release r n) role = role
+its_own c mine who (Swap m value) role = role.0
+its_own c mine who (Look m) role = tt
+
+in_time : (c : Config) (mine : List Told) (who : ℕ) (call : Call) → HasRole c mine who call → IsInTime c mine call
+in_time c mine who (Reserve r n) role = tt
+in_time c mine who (Submit r items) role = tt
+in_time c mine who (Peek r n) role = tt
+in_time c mine who (Release r n) role = tt
+in_time c mine who (Swap m value) role = role.1
+in_time c mine who (Look m) role = tt
 
 few : (c : Config) (mine : List Told) (call : Call) → IsCounted c mine call → IsFew c call
 few c mine (Reserve r n) counted = counted
@@ -30,7 +46,8 @@ places c mine (Look m) counted = tt
 pub fails_not_legal : (why : Illegal) (c : Config) (mine : List Told) (who : ℕ) (call : Call) → Fails why c mine who call → IsLegal c mine who call → ⊥
 fails_not_legal NoCaller c mine who call fails legal = fails legal.caller
 fails_not_legal Unknown c mine who call fails legal = fails.1 legal.known
-fails_not_legal NotItsOwn c mine who call fails legal = fails.2 legal.role
+fails_not_legal NotItsOwn c mine who call fails legal = fails.2 (its_own c mine who call legal.role)
+fails_not_legal NotNow c mine who call fails legal = fails.3 (in_time c mine who call legal.role)
 fails_not_legal Count c mine who call fails legal = fails.1 (few c mine call legal.counted)
 fails_not_legal Places c mine who call fails legal = fails.2 (places c mine call legal.counted)
 fails_not_legal Items c mine who call fails legal = fails.1 legal.items
@@ -49,6 +66,14 @@ module _ (c : Config) (mine other : List Told) (e : map bare mine ≡ map bare o
   places_there (Swap m value) has = tt
   places_there (Look m) has = tt
 
+  time_there : (who : ℕ) (call : Call) → IsItsOwn c who call → IsInTime c mine call → IsInTime c other call
+  time_there who (Reserve r n) owner time = tt
+  time_there who (Submit r items) owner time = tt
+  time_there who (Peek r n) owner time = tt
+  time_there who (Release r n) owner time = tt
+  time_there who (Swap m value) owner time = (same_role c mine other e who (Swap m value) (owner, time)).1
+  time_there who (Look m) owner time = tt
+
   role_there : (who : ℕ) (call : Call) → UpToRole c mine who call → UpToRole c other who call
   role_there who call h = (h.0, h.1, same_role c mine other e who call h.2)
 
@@ -62,7 +87,9 @@ pub fails_there : (why : Illegal) (c : Config) (mine other : List Told) (who : �
     → Fails why c mine who call → Fails why c other who call
 fails_there NoCaller c mine other who call e fails = fails
 fails_there Unknown c mine other who call e fails = fails
-fails_there NotItsOwn c mine other who call e fails = (fails.0, fails.1, λ role. fails.2 (same_role c other mine (sym e) who call role))
+fails_there NotItsOwn c mine other who call e fails = fails
+fails_there NotNow c mine other who call e fails =
+    (fails.0, fails.1, fails.2, λ time. fails.3 (time_there c other mine (sym e) who call fails.2 time))
 fails_there Count c mine other who call e fails = (role_there c mine other e who call fails.0, fails.1)
 fails_there Places c mine other who call e fails =
     (role_there c mine other e who call fails.0, fails.1, λ has. fails.2 (places_there c other mine (sym e) call has))

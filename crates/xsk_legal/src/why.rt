@@ -29,9 +29,12 @@ pub enum Illegal {
     /// The configuration has no such ring or mark.
     #[error("there is no such ring or mark")]
     Unknown,
-    /// The ring's call or the mark is another caller's, or its owner may not set the mark to this number now.
-    #[error("it is another caller's, or isn't to be set now")]
+    /// The ring's call or the mark isn't the caller's own.
+    #[error("it isn't the caller's own")]
     NotItsOwn,
+    /// The mark is the caller's own, but it may not set it to this number now, after its earlier calls and replies.
+    #[error("the mark may not be set to this number now")]
+    NotNow,
     /// Callers move 1 to 32 at once, and a mark has its own numbers.
     #[error("the number isn't from 1 to 32, or none that the mark can have")]
     Count,
@@ -215,7 +218,7 @@ impl Standing {
             return Some(Illegal::NotItsOwn);
         }
         if !self.is_time(config, mark, value) {
-            return Some(Illegal::NotItsOwn);
+            return Some(Illegal::NotNow);
         }
         if !may_be(config, mark, value) {
             return Some(Illegal::Count);

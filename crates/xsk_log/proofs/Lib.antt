@@ -5,3 +5,4 @@ pub mod RowPlaces
 pub mod StoredLines
 pub mod RowDigits
 pub mod Growing
+pub mod Shown

@@ -1,4 +1,5 @@
 pub mod Extents
+pub mod Items
 pub mod Left
 pub mod Line
 pub mod Log

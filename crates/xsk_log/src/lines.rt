@@ -1,10 +1,13 @@
 //! A walk over the entries of a log, each of which tells its journal's line.
-ghost use Rattle.std.specs.Prelude.{◌≡◌, ◌≤◌, sum_by, take};
-ghost use Rattle.xsk_log.specs.Log.{calls_of};
+ghost use Rattle.std.specs.Prelude.{◌≡◌, ◌<◌, ◌≤◌, List, Some, length, slice_get, sum_by, take};
+ghost use Rattle.std.specs.Option.{option_map};
+ghost use Rattle.xsk_umem.specs.declared.batch.Item.{Item};
+ghost use Rattle.xsk_log.specs.Items.{items_of, next_items, number_in};
+ghost use Rattle.xsk_log.specs.Log.{calls_of, entry_with};
 ghost use Rattle.xsk_log.specs.Pieces.{count_of};
 
 use crate::line::LineBuffer;
-use crate::log::Log;
+use crate::log::{Event, Log, Row};
 
 /// Goes over the entries of a log, and writes the line of one after another. Each line takes time of its own items alone.
 #[derive(Clone, Copy, Debug)]
@@ -57,5 +60,40 @@ impl Lines<'_> {
         self.row += 1;
         self.start += row.items;
         Some(row.who)
+    }
+
+    /// How many items the next entry shows: those of a Submit, or those that a Peek gave. Behind the last entry there are none.
+    pub fn items(&self) -> u32
+        ensures { result ≡ length (next_items (left_of self.now)) }
+    {
+        if self.row == self.log.len() {
+            return 0;
+        }
+        items_in(&self.log.rows.get(self.row))
+    }
+
+    /// The number of the frame of one of these items, counted from 0, if it has one.
+    pub fn frame(&self, i: u32) -> Option<u32>
+        requires { i < length (next_items (left_of self.now)) }
+        ensures { (item : Item) → slice_get (next_items (left_of self.now)) i ≡ Some item → result ≡ option_map number_in item.frame }
+    {
+        // For the proof, a read of a field tells what the type keeps: the items of all rows together are a number of 32 bits.
+        let _begun = self.log.begun;
+        self.log.pieces.get(self.start + i).frame
+    }
+}
+
+/// How many items the entry of a row shows.
+fn items_in(row: &Row) -> u32
+    ensures { (items : List Item) → length items ≡ row.now.items → result ≡ length (items_of (entry_with row.now.who row.now.event items)) }
+{
+    match row.event {
+        Event::Submitted(_) | Event::Items(..) => row.items,
+        Event::Granted(..)
+        | Event::Full(..)
+        | Event::Empty(..)
+        | Event::Released(..)
+        | Event::Swapped(..)
+        | Event::Looked(..) => 0,
     }
 }

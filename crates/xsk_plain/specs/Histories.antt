@@ -7,6 +7,7 @@ use Rattle.xsk_model.specs.Entry.{Entry, own}
 use Rattle.xsk_model.specs.History.{IsHistory, state_after}
 use Rattle.xsk_model.specs.Stored.{stored}
 use Rattle.xsk_legal.specs.Noted.{Noted}
+use Rattle.xsk_legal.specs.Noting.{IsFor}
 use Rattle.xsk_legal.specs.Standing.{StandsFor}
 use Rattle.xsk_plain.specs.Engine.{Engine, Shows}
 
@@ -27,6 +28,14 @@ pub record IsRun (engine : Engine) : Type 0 where
 pub record NotesOwn (c : Config) (h : List Entry) (who : ℕ) (kept : Noted) : Type 0 where
   pub caller : kept.who ≡ who
   pub stands : StandsFor c kept (own who h)
+
+-- it is that of a caller after the calls of the log
+pub record IsStanding (engine : Engine) (who : ℕ) (kept : Noted) : Type 0 where
+  pub kind : IsFor engine.config kept
+  pub frames : List Frame
+  pub history : List Entry
+  pub run : HasRun engine frames history
+  pub notes : NotesOwn engine.config history who kept
 
 -- so it is for each caller
 pub record EachNotesOwn (c : Config) (h : List Entry) (noted : List Noted) : Type 0 where

@@ -33,7 +33,7 @@ impl Model for Checked {
 impl Checked {
     ghost use Rattle.std.specs.Prelude.{◌≡◌, ◌+◌, ◌<◌, ◌≤◌, ◌↔◌, [], ◌∷◌, ◌++◌, length, OnOk, IfOk, IfErr, IfSome, IsNone, IsTrue};
     ghost use Rattle.xsk_model.specs.Asks.{joined_call, joined_reply, HasAsked, HasAnswered};
-    ghost use Rattle.xsk_model.specs.Config.{IsLawful};
+    ghost use Rattle.xsk_model.specs.Config.{IsLawful, callers_of};
     ghost use Rattle.xsk_model.specs.Entry.{own};
     ghost use Rattle.xsk_model.specs.Expected.{IsReplyTo};
     ghost use Rattle.xsk_model.specs.Legal.{IsLegal};
@@ -42,7 +42,7 @@ impl Checked {
     ghost use Rattle.xsk_model.specs.Stored.{stored_entry};
     ghost use Rattle.xsk_plain.specs.Engine.{Shows, frames_out};
     ghost use Rattle.xsk_legal.specs.Why.{Fails};
-    ghost use Rattle.xsk_plain.specs.Histories.{IsRun};
+    ghost use Rattle.xsk_plain.specs.Histories.{IsRun, IsStanding};
     ghost use Rattle.xsk_log.specs.Left.{left_of};
     ghost use Rattle.xsk_log.specs.Line.{IsLineAt};
     ghost use Rattle.xsk_log.specs.Log.{calls_of, entries_of};
@@ -107,6 +107,26 @@ impl Checked {
         ensures { result.now ≡ self.now.config }
     {
         self.plain.config()
+    }
+
+    /// The object itself, on which the calls were made.
+    pub fn object(&self) -> &Plain
+        ensures { result.now ≡ self.now }
+    {
+        &self.plain
+    }
+
+    /// The standing of a caller, if there is such a caller: what its own calls and replies in the log left it of places, items
+    /// and frames, and which call it may make next.
+    pub fn standing(&self, who: u32) -> Option<&Standing>
+        ensures none { IsNone result ↔ (callers_of self.now.config ≤ who) }
+        ensures some { IfSome result (λ standing. IsStanding self.now who standing.now) }
+    {
+        let place = who as usize;
+        if place >= self.standings.len() {
+            return None;
+        }
+        Some(&self.standings[place])
     }
 
     /// Whether the call is legal for the caller after its own calls and replies in the log. None is for a caller that

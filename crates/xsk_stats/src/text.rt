@@ -135,7 +135,7 @@ fn push_pairs(text: &mut String, config: &Config, drivers: &FigureList) -> Resul
     Ok(())
 }
 
-fn push_pair(
+pub(crate) fn push_pair(
     text: &mut String,
     pair: &PairInfo,
     counters: &DriverCounters,
@@ -172,7 +172,7 @@ fn push_all_sockets(
 }
 
 /// The lines of a pair's sockets.
-fn push_sockets(
+pub(crate) fn push_sockets(
     text: &mut String,
     classes: u32,
     pair: &PairInfo,
@@ -231,7 +231,7 @@ fn push_stranded(text: &mut String, mangled: bool, stranded: u64) -> Result<(), 
     Ok(())
 }
 
-fn pair_of(config: &Config, pair: u32) -> &PairInfo
+pub(crate) fn pair_of(config: &Config, pair: u32) -> &PairInfo
     requires { pair < length config.now.pairs }
     ensures { result.now ≡ pair_at config.now.pairs pair }
 {
