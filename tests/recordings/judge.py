@@ -10,8 +10,9 @@ right is tried against all kernels (kernels.py); that the program keeps them too
 import re
 import sys
 from dataclasses import dataclass
-from typing import List, Optional
+from typing import List, Optional, Tuple
 
+from hints import Hints
 from recording import GRANTED, REFUSED, Cancel, Free, Malformed, Reader, Reserve, Ring, Submit, lines_of
 
 PROGRAM, KERNEL = "the program broke a rule", "no kernel answers so"
@@ -263,17 +264,18 @@ class Judge:
 
 @dataclass(frozen=True)
 class Verdict:
-    """What a text deserves: the line that tells it, and the status; and of a call that can't be its line, and why."""
+    """What a text deserves: the line that tells it, and the status; of a call that can't be its line, and why; else the hints."""
 
     first: str
     status: int
     line: int = 0
     why: Optional[Refused] = None
+    hints: Tuple[str, ...] = ()
 
 
 def verdict(text) -> Verdict:
     """The verdict of the bytes of a recording."""
-    reader, judge, calls, number = Reader(), None, 0, 0
+    reader, judge, hints, calls, number = Reader(), None, Hints(), 0, 0
     for number, line in enumerate(lines_of(text), 1):
         try:
             call = reader.read(line)
@@ -289,15 +291,17 @@ def verdict(text) -> Verdict:
                 judge.step(call)
             except Refused as why:
                 return Verdict(f"not possible {number}", 14, number, why)
+            hints.note(judge.setting, call, number)
             calls += 1
     if calls:
-        return Verdict(f"possible {calls}", 0)
+        return Verdict(f"possible {calls}", 0, hints=tuple(hints.told(judge)))
     return Verdict("no calls" if reader.is_begun else f"no recording {number + 1}" if number else "empty", 15)
 
 
 def told(found: Verdict, text) -> List[bytes]:
-    """The lines that `xsk check` tells of a text: the verdict; of a call that can't be its line, why, and the earlier line that this names."""
-    lines = [found.first.encode()]
+    """The lines that `xsk check` tells of a text: the verdict, and the hints where it is possible; of a call that can't be its line, why,
+    and the earlier line that this names."""
+    lines = [line.encode() for line in (found.first, *found.hints)]
     if found.why:
         lines += [numbered(text, found.line), f"  {found.why.who} ({found.why.code}): {found.why.text}".encode()]
         lines += [b"  " + NO_KERNEL] if found.why.who == KERNEL else []

@@ -3,6 +3,8 @@ use Rattle.std.specs.Prelude.{◌≡◌, ℕ, Option, Some, None, List, [], ◌�
 use Rattle.std.specs.Borrow.{Bor}
 use Rattle.xsk_side.specs.Setting.{Setting}
 use Rattle.xsk_judge.specs.Stands.{Line, IsReady as IsReadyJudge, IsWhy, StandsFor as StandsForLines}
+use Rattle.xsk_hints.specs.Noted.{IsSized, Notes}
+use Rattle.xsk_hints.specs.Told.{hints_text}
 use Rattle.xsk_recording.specs.Text.{Numbered, Read, line_after}
 use Rattle.xsk_recording.specs.Feeding.{Reader, StandsFor as StandsForText, Tells}
 use Rattle.xsk_recording.specs.Verdict.{Begins, IsVerdict}
@@ -16,7 +18,7 @@ use Rattle.xsk_check.specs.declared.check.Court.{Court}
 use Rattle.xsk_check.specs.declared.finding.Blame.{Blame}
 use Rattle.xsk_check.specs.declared.finding.Finding.{Finding}
 
--- what a check keeps: what its reader keeps, and, once the setting is told, the judge; and how many calls were judged
+-- what a check keeps: what its reader keeps, and, once the setting is told, the judge and the hints; and how many calls were judged
 pub record Checked : Type 0 where
   pub reading : Reader
   pub court : Option Court
@@ -40,10 +42,19 @@ line_of n = record { line = n.line; call = n.call }
 abbrev pub lines_of_calls : List Numbered → List Line
 lines_of_calls calls = map line_of calls
 
--- the judge is that of the header's setting, and stands for the calls
+pub record IsOpen (court : Court) : Type 0 where
+  pub ready : IsReadyJudge court.setting court.judge
+  pub sized : IsSized court.setting court.hints
+
+-- the judge stands for these lines, and the hints are on them
+pub record Follows (court : Court) (lines : List Line) : Type 0 where
+  pub stands : StandsForLines court.setting court.judge lines
+  pub notes : Notes court.setting court.hints lines
+
+-- they are those of the header's setting and of its calls
 abbrev pub Judges : Read → Option Court → Type 0
 Judges r None = ⊥
-Judges r (Some court) = (court.setting ≡ r.header.setting) × IsReadyJudge court.setting court.judge × StandsForLines court.setting court.judge (lines_of_calls r.calls)
+Judges r (Some court) = (court.setting ≡ r.header.setting) × IsOpen court × Follows court (lines_of_calls r.calls)
 
 -- there is one from the line of the kernel on
 abbrev pub IsHeard : Next → Read → Option Court → Type 0
@@ -80,10 +91,11 @@ pub record IsReason (text : List ℕ) (line : ℕ) (blame : Blame) : Type 0 wher
   pub calls : next.calls ≡ record { line = line; call = blame.call } ∷ read.calls
   pub why : IsWhy next.header.setting (lines_of_calls read.calls) blame.call blame.why
 
+-- what only the end of a text can tell isn't found before it
 abbrev pub IsBlamed : List ℕ → Verdict → Option Blame → Type 0
-IsBlamed text a_verdict.Empty blame = blame ≡ None
-IsBlamed text a_verdict.NoCalls blame = blame ≡ None
-IsBlamed text (a_verdict.Possible calls) blame = blame ≡ None
+IsBlamed text a_verdict.Empty blame = ⊥
+IsBlamed text a_verdict.NoCalls blame = ⊥
+IsBlamed text (a_verdict.Possible calls) blame = ⊥
 IsBlamed text (a_verdict.NotPossible line) None = ⊥
 IsBlamed text (a_verdict.NotPossible line) (Some blame) = IsReason text line blame
 IsBlamed text (a_verdict.NoRecording line) blame = blame ≡ None
@@ -91,6 +103,17 @@ IsBlamed text (a_verdict.NoSetting line error) blame = blame ≡ None
 
 abbrev pub IsFound : List ℕ → Finding → Type 0
 IsFound text finding = IsVerdict text finding.verdict × IsBlamed text finding.verdict finding.blame
+
+-- ---- the end
+
+-- the hints on a recording that is whole: on all its calls, each with the number of its line
+pub record AreHints (text hints : List ℕ) : Type 0 where
+  pub read : Read
+  pub begins : Begins text [] read
+  pub calls : read.header.next ≡ Calls
+  pub text_is : hints ≡ hints_text read.header.setting (lines_of_calls read.calls)
+
+-- ---- pieces
 
 -- a piece more was read; or a part of it, which settles the verdict whatever follows
 abbrev pub Goes : Checked → List ℕ → List ℕ → Option Finding → Type 0
