@@ -3,6 +3,7 @@ use Rattle.std.specs.Prelude.{◌≡◌, ℕ, Option, Some, None, List, [], ◌�
 use Rattle.std.specs.Borrow.{Bor}
 use Rattle.xsk_side.specs.Setting.{Setting}
 use Rattle.xsk_judge.specs.Stands.{Line, IsReady as IsReadyJudge, IsWhy, StandsFor as StandsForLines}
+use Rattle.xsk_judge.specs.Reasons.{IsReasonOf}
 use Rattle.xsk_hints.specs.Noted.{IsSized, Notes}
 use Rattle.xsk_hints.specs.Fills.{Feeds, fills_text}
 use Rattle.xsk_hints.specs.Told.{hints_text}
@@ -86,7 +87,7 @@ IsReady checked = (text : List ℕ) × StandsFor checked text
 
 -- ---- what is found
 
--- the call of a line, and why it isn't possible after those before it
+-- the call of a line, and why it isn't possible after those before it: the first reason of the judge's table
 pub record IsReason (text : List ℕ) (line : ℕ) (blame : Blame) : Type 0 where
   pub read : Read
   pub last : List ℕ
@@ -96,6 +97,7 @@ pub record IsReason (text : List ℕ) (line : ℕ) (blame : Blame) : Type 0 wher
   pub after : line_after read last ≡ Some next
   pub calls : next.calls ≡ record { line = line; call = blame.call } ∷ read.calls
   pub why : IsWhy next.header.setting (lines_of_calls read.calls) blame.call blame.why
+  pub reason : IsReasonOf next.header.setting (lines_of_calls read.calls) line blame.call blame.why
 
 -- what only the end of a text can tell isn't found before it
 abbrev pub IsBlamed : List ℕ → Verdict → Option Blame → Type 0

@@ -4,6 +4,7 @@ ghost use Rattle.xsk_recording.specs.Text.{Read};
 ghost use Rattle.xsk_recording.specs.Counts.{IsCounted};
 ghost use Rattle.xsk_recording.specs.Verdict.{IsVerdict};
 ghost use Rattle.xsk_judge.specs.Stands.{Line, IsWhy, StandsFor as StandsForLines};
+ghost use Rattle.xsk_judge.specs.Reasons.{IsReasonOf};
 ghost use Rattle.xsk_check.specs.Checking.{AreHints, Follows, Goes, HasTold, Heard, Hears, IsOpen, IsReady, StandsFor, Steps, hints_on, setting_in, setting_view};
 
 use crate::finding::{Blame, Finding};
@@ -217,7 +218,8 @@ fn step(court: &mut Court, line: u64, call: &Call) -> Result<(), Why>
     ensures setting { court.new.setting ≡ court.old.setting }
     ensures opens { IfOk result (λ _. IsOpen court.new) }
     ensures follows { IfOk result (λ _. (lines : List Line) → Follows court.old lines → Follows court.new (record { line = line; call = call.now } ∷ lines)) }
-    ensures why { IfErr result (λ why. (lines : List Line) → StandsForLines court.old.setting court.old.judge lines → IsWhy court.old.setting lines call.now why) }
+    ensures why { IfErr result (λ why. (lines : List Line) → StandsForLines court.old.setting court.old.judge lines
+        → IsWhy court.old.setting lines call.now why × IsReasonOf court.old.setting lines line call.now why) }
 {
     court.fills.note(&court.setting, &court.judge, line, call);
     court.judge.step(&court.setting, line, call)?;
