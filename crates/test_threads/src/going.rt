@@ -1,4 +1,4 @@
-//! Calls that a thread makes until they go on, each of them legal, with its looks at the other side's count counted.
+//! Calls that a thread makes until they go on, each of them legal.
 ghost use Rattle.std.specs.Prelude.{◌≡◌};
 ghost use Rattle.xsk_rings.specs.Rounds.{Rests};
 
@@ -11,18 +11,16 @@ use xsk_umem::Item;
 /// How often a call is made again that found a ring full or empty.
 pub(crate) const PATIENCE: u64 = 10_000_000_000;
 
-/// What a caller did: its Reserves and Peeks, how many of them found a ring full or empty, and its looks at the other side's
-/// count.
-#[derive(Clone, Copy, Default, PartialEq, Eq)]
+/// What a caller did: its Reserves and Peeks, and how many of them found a ring full or empty.
+#[derive(Clone, Copy, Default)]
 pub(crate) struct Tally {
     pub(crate) asked: u32,
     pub(crate) waits: u32,
-    pub(crate) looks: u32,
 }
 
 impl Tally {
-    /// Counts a call by its reply, and whether it looked.
-    fn count(&mut self, reply: &Reply, looked: bool) {
+    /// Counts a call by its reply.
+    fn count(&mut self, reply: &Reply) {
         let (asked, waits) = match reply {
             Reply::Granted | Reply::Items(_) => (1, 0),
             Reply::Full(_) | Reply::Empty => (1, 1),
@@ -30,7 +28,6 @@ impl Tally {
         };
         self.asked = self.asked.saturating_add(asked);
         self.waits = self.waits.saturating_add(waits);
-        self.looks = self.looks.saturating_add(u32::from(looked));
     }
 }
 
@@ -48,12 +45,8 @@ pub(crate) fn make(
     if !pass.allows(shared, &call) {
         return None;
     }
-    let looked = match &call {
-        Call::Reserve(..) | Call::Peek(..) => !pass.covers(shared, &call),
-        Call::Submit(..) | Call::Release(..) | Call::Swap(..) | Call::Look(_) => false,
-    };
     let reply = pass.perform(shared, call);
-    tally.count(&reply, looked);
+    tally.count(&reply);
     Some(reply)
 }
 

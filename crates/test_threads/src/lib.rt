@@ -1,6 +1,5 @@
-//! Tests of what data can't say: values that may be sent to other threads, threads that meet and move frames at once, and
-//! programs that are closures of one's own on threads; the bay over files whose calls are interrupted; and gates whose workers come
-//! one after the other.
+//! Tests of what data can't say: values that may be sent to other threads, threads that meet and move frames at once; the bay over
+//! files whose calls are interrupted; and gates whose workers come one after the other.
 #![tactic(auto)]
 
 #[cfg(test)]
@@ -18,11 +17,7 @@ mod interrupted;
 #[cfg(test)]
 mod moving;
 #[cfg(test)]
-mod packets;
-#[cfg(test)]
 mod sendable;
-#[cfg(test)]
-mod sending;
 #[cfg(test)]
 mod setting;
 #[cfg(test)]

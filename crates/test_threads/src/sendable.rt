@@ -1,8 +1,6 @@
-//! The types whose values may be sent to another thread, or be shared with one.
+//! The types whose values may be sent to another thread, or be shared with one. That the machines may be is shown where `xsk_workers`
+//! sends them.
 
-use xsk_app::App;
-use xsk_driver::Driver;
-use xsk_machine::Inputs;
 use xsk_model::{Act, Call, Config, Reply};
 use xsk_rings::CheckedPass;
 use xsk_table::{Note, Pass, Shared};
@@ -23,12 +21,10 @@ fn memory_may_be_sent() {
 }
 
 #[test]
-fn calls_and_workers_may_be_sent() {
+fn calls_may_be_sent() {
     is_sent::<Call>();
     is_sent::<Reply>();
     is_sent::<Act>();
-    is_sent::<Driver<'_>>();
-    is_sent::<App<'_>>();
 }
 
 #[test]
@@ -39,5 +35,4 @@ fn passes_may_be_sent_and_the_table_shared() {
     is_shared::<Shared>();
     is_shared::<Config>();
     is_shared::<PacketList>();
-    is_shared::<Inputs>();
 }

@@ -72,7 +72,7 @@ fn take<T: Works, R: Wait>(rt: &R, lock: &Lock<T>, hand: &mut Hand<T>) -> T
     ensures mine { mine hand.new.view ≡ mine hand.old.view }
     ensures name { T.name result ≡ lock.now.name }
 {
-    let mut pauses = Pauses::short();
+    let mut pauses = Pauses::shared();
     for _ in rt.forever() {
         match lock.try_lock(hand) {
             Some(ends) => return ends,
@@ -252,7 +252,7 @@ pub(crate) fn run<T: Works, R: Wait, G: Gate>(
 {
     let mut hand = hand;
     let number = share.base.saturating_add(share.hand);
-    let mut pauses = Pauses::short();
+    let mut pauses = Pauses::shared();
     let mut told = false;
     let mut count = 0u64;
     for _ in rt.forever() {

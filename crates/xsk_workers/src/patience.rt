@@ -58,8 +58,9 @@ impl Patience {
     /// The pauses that it makes.
     fn pauses(self) -> Pauses {
         match self {
-            Patience::Short { has_own: true } | Patience::Long { .. } => Pauses::long(),
-            Patience::Short { has_own: false } | Patience::Yielding => Pauses::short(),
+            Patience::Short { has_own: true } => Pauses::long(),
+            Patience::Long { .. } => Pauses::between(),
+            Patience::Short { has_own: false } | Patience::Yielding => Pauses::shared(),
         }
     }
 

@@ -5,72 +5,78 @@ use std::thread::Parker;
 use std::time::Duration;
 use std::{hint, thread};
 
-/// How often a pause spins at most on a processor of one's own, some 35 to 200 microseconds, and on one that others share.
-const LONG_SPIN: u32 = 4096;
+/// How many pauses spin twice as often each time, from once to 64 times; later ones spin as often as the last of these.
+const DOUBLINGS: u32 = 6;
 
-const SHORT_SPIN: u32 = 64;
+/// How many pauses spin or yield before the first that sleeps, all together for some 40 to 500 microseconds: of who has a processor, of
+/// who spins as long again between them, and of who shares one.
+const LONG: u32 = 128;
 
-/// How many pauses yield on a processor that others share.
-const YIELDS: u32 = 8;
+const BETWEEN: u32 = 16;
+
+const SHARED: u32 = 256;
 
 /// How many microseconds a pause sleeps. The system adds some 50.
 const NAP: u64 = 5;
 
-/// Pauses that get longer: each spins twice as often as the one before, then some yield, and from there on each sleeps for a while.
-/// Where strangers want the processor too, who yields waits for a slice of theirs, and who has slept mostly goes on at once. It wakes by
-/// itself, so nobody owes it a token.
+/// Pauses of who waits: the first ones spin, on a processor that others share the next ones yield, and from there on each sleeps for a
+/// while. Where strangers want the processor too, who yields waits for a slice of theirs, and who has slept mostly goes on at once. It
+/// wakes by itself, so nobody owes it a token.
 #[derive(Drop)]
 pub(crate) struct Pauses {
-    spins: u32,
-    most_spins: u32,
-    yields: u32,
-    most_yields: u32,
+    made: u32,
+    spinning: u32,
+    awake: u32,
     bed: Parker,
 }
 
 impl Pauses {
     /// Those on a processor of one's own.
     pub(crate) fn long() -> Pauses {
-        Pauses::new(LONG_SPIN, 0)
+        Pauses::new(LONG, LONG)
+    }
+
+    /// Those on a processor of one's own, of who spins between them.
+    pub(crate) fn between() -> Pauses {
+        Pauses::new(BETWEEN, BETWEEN)
     }
 
     /// Those on a processor that others share.
-    pub(crate) fn short() -> Pauses {
-        Pauses::new(SHORT_SPIN, YIELDS)
+    pub(crate) fn shared() -> Pauses {
+        Pauses::new(DOUBLINGS + 1, SHARED)
     }
 
-    fn new(most_spins: u32, most_yields: u32) -> Pauses {
+    fn new(spinning: u32, awake: u32) -> Pauses {
         Pauses {
-            spins: 1,
-            most_spins,
-            yields: 0,
-            most_yields,
+            made: 0,
+            spinning,
+            awake,
             bed: Parker::new(),
         }
     }
 
     /// Begins anew.
     pub(crate) fn reset(&mut self) {
-        self.spins = 1;
-        self.yields = 0;
+        self.made = 0;
     }
 
     /// Whether it has spun for as long as on a processor that others share.
     pub(crate) fn has_spun(&self) -> bool {
-        self.spins > SHORT_SPIN
+        self.made > DOUBLINGS
     }
 
     /// Makes the next pause.
     pub(crate) fn pause<R: Wait>(&mut self, rt: &R) {
-        if self.spins <= self.most_spins {
-            spin(self.spins);
-            self.spins = self.spins.saturating_mul(2);
-        } else if self.yields < self.most_yields {
-            self.yields += 1;
-            thread::yield_now();
-        } else {
+        if self.made >= self.awake {
             self.bed.park_timeout(rt, Duration::from_micros(NAP));
+            return;
         }
+        if self.made < self.spinning {
+            spin(1 << self.made.min(DOUBLINGS));
+        } else {
+            thread::yield_now();
+        }
+        self.made += 1;
     }
 }
 

@@ -108,7 +108,7 @@ pub(crate) fn finish<R: Wait, W: Turns, G: Gate>(
     ensures belong { All (λ w. IsSeatOn shared.now (W.seat w)) members.new.items }
     ensures whole { All W.has_run members.new.items }
 {
-    let mut pauses = Pauses::short();
+    let mut pauses = Pauses::shared();
     let mut turn = 0u64;
     for _ in rt.forever() {
         let pace = take_turns(shared, gate, turn, members);
