@@ -5,6 +5,7 @@ use Rattle.xsk_side.specs.Setting.{Setting}
 use Rattle.xsk_judge.specs.Stands.{Line, IsReady as IsReadyJudge, IsWhy, StandsFor as StandsForLines}
 use Rattle.xsk_judge.specs.Reasons.{IsReasonOf}
 use Rattle.xsk_hints.specs.Noted.{IsSized, Notes}
+use Rattle.xsk_hints.specs.Fills.{Feeds, fills_text}
 use Rattle.xsk_hints.specs.Told.{hints_text}
 use Rattle.xsk_recording.specs.Text.{Numbered, Read, line_after}
 use Rattle.xsk_recording.specs.Feeding.{Reader, StandsFor as StandsForText, Tells}
@@ -46,11 +47,16 @@ lines_of_calls calls = map line_of calls
 pub record IsOpen (court : Court) : Type 0 where
   pub ready : IsReadyJudge court.setting court.judge
   pub sized : IsSized court.setting court.hints
+  pub pairs : length court.fills ≡ length court.setting.pairs
 
 -- the judge stands for these lines, and the hints are on them
 pub record Follows (court : Court) (lines : List Line) : Type 0 where
   pub stands : StandsForLines court.setting court.judge lines
   pub notes : Notes court.setting court.hints lines
+  pub feeds : Feeds court.setting court.fills lines
+
+abbrev pub hints_on : Setting → List Line → List ℕ
+hints_on s lines = hints_text s lines ++ fills_text s lines
 
 -- they are those of the header's setting and of its calls
 abbrev pub Judges : Read → Option Court → Type 0
@@ -113,7 +119,7 @@ pub record AreHints (text hints : List ℕ) : Type 0 where
   pub read : Read
   pub begins : Begins text [] read
   pub calls : read.header.next ≡ Calls
-  pub text_is : hints ≡ hints_text read.header.setting (lines_of_calls read.calls)
+  pub text_is : hints ≡ hints_on read.header.setting (lines_of_calls read.calls)
 
 -- ---- pieces
 
