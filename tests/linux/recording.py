@@ -19,6 +19,9 @@ JUDGE = os.path.join(TESTS, "recordings", "judge.py")
 PACKETS = 400
 # Which reason is told of each mistake, or None where it's possible.
 MISTAKES = {1: "frame", 2: "frame", 3: None, 4: "places", 5: "release", 6: None, 7: "frame", 8: None, 9: None, 10: None}
+# How a line begins that is told of some that are possible, and how none does.
+HINTS = {3: ("comp.0: not peeked since line 0, ", "fill.0: frames"), 8: ("tx.0: invalid descriptors (across the end of a chunk): ", "tx.0: frames"),
+         9: ("fill.0: no frame on it from line ", "fill.0: frames"), 10: ("tx.0: frames on it at the end: ", "comp.")}
 
 
 def built():
@@ -96,6 +99,8 @@ def mistakes():
             *_, files = run("l2fwd-recorded", folder, "-i", "20000", "-m", str(mistake))
             said = judged(merged(files, folder)[2])
             yield f"mistake {mistake}", (said[0].split()[0], reason(said)), ("not" if wanted else "possible", wanted)
+            for words, there in zip(HINTS.get(mistake, ()), (True, False)):
+                yield f"mistake {mistake}, '{words}'", any(line.startswith(words) for line in said[1:]), there
 
 
 @case(PAGE, "XSK_RECORD_ASAN stops where a frame is written to behind submit, and leaves a correct program alone")

@@ -10,8 +10,9 @@ right is tried against all kernels (kernels.py); that the program keeps them too
 import re
 import sys
 from dataclasses import dataclass
-from typing import List, Optional
+from typing import List, Optional, Tuple
 
+from hints import Hints
 from recording import GRANTED, REFUSED, Cancel, Free, Malformed, Reader, Reserve, Ring, Submit, lines_of
 
 PROGRAM, KERNEL = "the program broke a rule", "no kernel answers so"
@@ -169,7 +170,7 @@ class Judge:
             raise Refused(KERNEL, "full", f"{ring} has {queue.size} places, {len(queue.held)} are held, and {more}")
         for entry, stood in zip(call.entries, queue.standing):
             if entry != stood:
-                raise Refused(KERNEL, "other", f"{ring} shows {entry}, and another entry has stood there since it was cancelled")
+                raise Refused(KERNEL, "other", f"{ring} shows {entry}, and {stood} has stood there since line {queue.again}")
         again = min(len(queue.standing), shown)
         numbered = list(enumerate(call.entries, queue.count))
         for number, entry in numbered[again:]:
@@ -244,7 +245,7 @@ class Judge:
         keep = len(queue.held) - call.count
         back = queue.held[keep:]
         for entry, number in back:
-            self._is_untouched(call.ring, self.setting.frame(entry), number)
+            self._is_untouched(call.ring, entry, number)
         for frame in (self.setting.frame(entry) for entry, _ in back):
             if frame is not None:
                 self.known[frame] = Known("again", call.ring, self.line)
@@ -252,28 +253,31 @@ class Judge:
         queue.standing[:0] = [entry for entry, _ in back]
         queue.count, queue.again = queue.count - call.count, self.line
 
-    def _is_untouched(self, ring, frame, number):
-        """The program has a frame by this very entry."""
+    def _is_untouched(self, ring, entry, number):
+        """The program has an entry's frame by this very entry."""
+        frame = self.setting.frame(entry)
         known = self.where(frame)
         if frame is not None and (known.place, known.ring, known.number) != ("peeked", ring, number):
-            raise Refused(PROGRAM, "passed on", f"an entry of {ring} is cancelled, and its frame was submitted since it was peeked: {known}")
+            raise Refused(PROGRAM, "passed on", f"{entry} of {ring} is cancelled, and its frame {frame} was submitted since it was peeked: "
+                                                f"{known}")
 
 
 # --------------------------------------------------------------------------------------------------------------- the verdict of a text
 
 @dataclass(frozen=True)
 class Verdict:
-    """What a text deserves: the line that tells it, and the status; and of a call that can't be its line, and why."""
+    """What a text deserves: the line that tells it, and the status; of a call that can't be its line, and why; else the hints."""
 
     first: str
     status: int
     line: int = 0
     why: Optional[Refused] = None
+    hints: Tuple[str, ...] = ()
 
 
 def verdict(text) -> Verdict:
     """The verdict of the bytes of a recording."""
-    reader, judge, calls, number = Reader(), None, 0, 0
+    reader, judge, hints, calls, number = Reader(), None, Hints(), 0, 0
     for number, line in enumerate(lines_of(text), 1):
         try:
             call = reader.read(line)
@@ -289,15 +293,17 @@ def verdict(text) -> Verdict:
                 judge.step(call)
             except Refused as why:
                 return Verdict(f"not possible {number}", 14, number, why)
+            hints.note(judge.setting, call, number)
             calls += 1
     if calls:
-        return Verdict(f"possible {calls}", 0)
+        return Verdict(f"possible {calls}", 0, hints=tuple(hints.told(judge)))
     return Verdict("no calls" if reader.is_begun else f"no recording {number + 1}" if number else "empty", 15)
 
 
 def told(found: Verdict, text) -> List[bytes]:
-    """The lines that `xsk check` tells of a text: the verdict; of a call that can't be its line, why, and the earlier line that this names."""
-    lines = [found.first.encode()]
+    """The lines that `xsk check` tells of a text: the verdict, and the hints where it is possible; of a call that can't be its line, why,
+    and the earlier line that this names."""
+    lines = [line.encode() for line in (found.first, *found.hints)]
     if found.why:
         lines += [numbered(text, found.line), f"  {found.why.who} ({found.why.code}): {found.why.text}".encode()]
         lines += [b"  " + NO_KERNEL] if found.why.who == KERNEL else []

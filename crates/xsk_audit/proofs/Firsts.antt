@@ -164,7 +164,7 @@ module _ (c : Config) (frames fresh : List Frame) (h : List Entry) (front : List
       ap bare_reply here.1 ∙ replies-alike c (state_after c frames first) (state_after c fresh (entries front)) e.call last.entry.call states call ∙ ap bare_reply (sym last_reply) in
       sym (line-bare (length c.pairs) e) ∙ (λ i. line_of (length c.pairs) (record { who = who i; call = call i; reply = reply i })) ∙ line-bare (length c.pairs) last.entry
 
-take-next : (xs : List (List ℕ)) (line : List ℕ) (later : List (List ℕ)) → take (length xs + 1) (xs ++ line ∷ later) ≡ xs ++ line ∷ []
+pub take-next : (xs : List (List ℕ)) (line : List ℕ) (later : List (List ℕ)) → take (length xs + 1) (xs ++ line ∷ later) ≡ xs ++ line ∷ []
 take-next [] line later = refl
 take-next (x ∷ xs) line later =
     let e : length (x ∷ xs) + 1 ≡ suc (length xs + 1) = omega arith in

@@ -11,7 +11,7 @@ use Rattle.xsk_model.specs.Asks.{joined_call, HasAsked}
 use Rattle.xsk_model.specs.Config.{Config}
 use Rattle.xsk_model.specs.Entry.{Entry, own}
 use Rattle.xsk_model.specs.History.{IsHistory, state_after}
-use Rattle.xsk_model.specs.Numbers.{times}
+use Rattle.xsk_model.specs.Numbers.{times, numbers}
 use Rattle.xsk_model.specs.Object.{submitted}
 use Rattle.xsk_model.specs.Own.{had_of}
 use Rattle.xsk_model.specs.Stored.{stored, stored_entry}
@@ -41,23 +41,36 @@ use Rattle.xsk_audit.specs.declared.why.Next.TheVariants.{Follows, Fails as Stop
 use Rattle.xsk_audit.proofs.Asking.{asks-too}
 use Rattle.xsk_audit.proofs.Making.{as-many, read-joined, submitted-joined}
 use Rattle.xsk_audit.proofs.Numbers.{some-value}
+use Rattle.xsk_audit.proofs.Shelves.{numbers-needed}
+use Rattle.xsk_audit.proofs.Stocks.{at-most}
 
 -- ---- a call that isn't made
 
 module _ (engine : Engine) (places : Places) (frames : List Frame) (h : List Entry) (who : ℕ) (form : Ask) (told : List Item) (playing : IsPlaying engine places frames h) (asked : HasAsked form told) where
-  had-here : (n : ℕ) → times n (had_of (own who h)) ≤ has places n
-  had-here n = elim (cases_lt 0 (times n (had_of (own who h)))) [
-    | inl some ↦ omega (arith, playing.stocked who n some, times-had engine.config frames (state_after engine.config frames h) h who n (history_sound engine.config frames h playing.run.legal))
+  had-here : (any n : ℕ) → times n (had_of (own any h)) ≤ has places n
+  had-here any n = elim (cases_lt 0 (times n (had_of (own any h)))) [
+    | inl some ↦ omega (arith, playing.stocked any n some, times-had engine.config frames (state_after engine.config frames h) h any n (history_sound engine.config frames h playing.run.legal))
     | inr none ↦ omega (arith, none)
   ]
 
-  pub lacking : Lacks engine.config.geometry places (descs_of told) → IsLacking engine.config h who (joined_call form told)
+  pub lacking : Lacks engine.config.geometry places (descs_of told) → IsLacking engine.config h (joined_call form told)
   lacking lacks =
       let all : descs_of told ≡ descs_of (submitted (joined_call form told)) = ap descs_of (sym (submitted-joined form told asked)) in
       record {
         frame = lacks.0;
-        lacks = subst (λ (descs : List XdpDesc). times lacks.0 (had_of (own who h)) < times lacks.0 (needed engine.config.geometry descs)) all (omega (arith, lacks.1, had-here lacks.0));
+        lacks = λ any. subst (λ (descs : List XdpDesc). times lacks.0 (had_of (own any h)) < times lacks.0 (needed engine.config.geometry descs)) all (omega (arith, lacks.1, had-here any lacks.0));
       }
+
+  -- each frame that is lent some caller has
+  had-all : (mid : Places) (items : List Item) → IsLent engine.config.geometry places mid (descs_of told) items → IsLacking engine.config h (joined_call form told) → ⊥
+  had-all mid items lent lacking =
+      let g = engine.config.geometry in
+      let n = lacking.frame in
+      let named : times n (needed g (descs_of (submitted (joined_call form told)))) ≡ times n (numbers items) =
+      ap (λ (all : List Item). times n (needed g (descs_of all))) (submitted-joined form told asked) ∙ ap (λ (descs : List XdpDesc). times n (needed g descs)) (sym lent.descs_are) ∙ ap (times n) (sym (numbers-needed g items lent.frames)) in
+      let here : has places n ≡ 1 = omega (arith, lacking.lacks 0, named, lent.left n, at-most places n) in
+      let one = playing.had n here in
+      omega (arith, one.1, lacking.lacks one.0, named, lent.left n, at-most places n)
 
   pub refused : (mid : Places) (items : List Item) (why : Illegal) → read_call (joined_call form told) ≡ joined_call form told → IsLent engine.config.geometry places mid (descs_of told) items
       → Fails why engine.config (own who engine.log) who (joined_call form items) → IsRefused engine.config h who (joined_call form told) why
@@ -66,6 +79,7 @@ module _ (engine : Engine) (places : Places) (frames : List Frame) (h : List Ent
       let here : Fails why engine.config (own who (stored engine.config.geometry engine.config.sg h)) who (joined_call form items) =
       subst (λ (log : List Entry). Fails why engine.config (own who log) who (joined_call form items)) playing.run.log fails in
       record {
+        had = had-all mid items lent;
         call = joined_call form items;
         told_is = read-joined form told items lent.descs_are ∙ bare;
         whole = subst (λ (all : List Item). All (HasItsFrame engine.config.geometry) all) (sym (submitted-joined form items given)) lent.frames;
@@ -74,13 +88,14 @@ module _ (engine : Engine) (places : Places) (frames : List Frame) (h : List Ent
 
 -- ---- a line
 
-pub barred : (c : Config) (frames : List Frame) (h : List Entry) (least : ℕ) (line : List ℕ) (descs : List XdpDesc) (right : List ℕ) (said : Said) (reason : Reason) → line_at (length c.pairs) line ≡ Some said
-    → descs ≡ descs_of (submitted said.call) → IsUnmade c h said.who said.call reason → IsReason c frames h least line descs right reason
-barred c frames h least line descs right said Form says are unmade = absurd unmade
-barred c frames h least line descs right said (Call why) says are unmade = record { said = said; says = says; descs_are = are; unmade = unmade }
-barred c frames h least line descs right said Frames says are unmade = record { said = said; says = says; descs_are = are; unmade = unmade }
-barred c frames h least line descs right said Reply says are unmade = absurd unmade
-barred c frames h least line descs right said Round says are unmade = absurd unmade
+pub barred : (engine : Engine) (frames : List Frame) (h : List Entry) (least : ℕ) (line : List ℕ) (descs : List XdpDesc) (right : List ℕ) (said : Said) (reason : Reason)
+    → line_at (length engine.config.pairs) line ≡ Some said → descs ≡ descs_of (submitted said.call) → IsUnmade engine.config h said.who said.call reason → HasRun engine frames h
+    → IsReason engine frames h least line descs right reason
+barred engine frames h least line descs right said Form says are unmade run = absurd unmade
+barred engine frames h least line descs right said (Call why) says are unmade run = (record { said = said; says = says; descs_are = are; unmade = unmade }, run)
+barred engine frames h least line descs right said Frames says are unmade run = (record { said = said; says = says; descs_are = are; unmade = unmade }, run)
+barred engine frames h least line descs right said Reply says are unmade run = absurd unmade
+barred engine frames h least line descs right said Round says are unmade run = absurd unmade
 
 -- the last line of a log
 pub last-line : (engine : Engine) (frames : List Frame) (h : List Entry) (e : Entry) (pairs i : ℕ) (line : List ℕ) → HasRun engine frames (h ++ e ∷ []) → i ≡ length h → IsLineAt pairs engine.log i line
@@ -115,13 +130,13 @@ goes-on engine shelf frames h least line right descs said (Stops Reply) says mad
   entry = made.entry;
   caller = made.caller;
   told = made.told;
-  legal = made.playing.run.legal;
+  run = made.playing.run;
   right_is = is;
   other = beside;
 }
 goes-on engine shelf frames h least line right descs said (Stops Round) says made calls is beside = record {
   timed = record { round = beside.0; entry = made.entry };
-  legal = made.playing.run.legal;
+  run = made.playing.run;
   line_is = beside.1 ∙ ap (λ (text : List ℕ). decimal beside.0 ++ codes " " ++ text) is;
   falls = beside.2;
 }
@@ -142,11 +157,11 @@ all-legal c engine shelf frames timed lines left playing config rounds are none 
   },
 )
 
-pub stops-for : (c : Config) (engine new : Engine) (shelf : Places) (frames : List Frame) (timed : List Timed) (lines left later : List (List ℕ)) (least same : ℕ) (line right : List ℕ) (descs : List XdpDesc)
-    (reason : Reason) → IsPlaying engine shelf frames (entries timed) → engine.config ≡ c → new.config ≡ c → NeverFalls 0 timed → last_of 0 timed ≡ least → same ≡ length timed
-    → lines ≡ map (journal_line (length engine.config.pairs)) timed ++ left → left ≡ line ∷ later → IsReason new.config frames (entries timed) least line descs right reason
-    → StopsFor c lines descs right same reason
-stops-for c engine new shelf frames timed lines left later least same line right descs reason playing config kept rounds last count are first is = record {
+pub stops-for : (engine new : Engine) (shelf : Places) (frames : List Frame) (timed : List Timed) (lines left later : List (List ℕ)) (least same : ℕ) (line right : List ℕ) (descs : List XdpDesc)
+    (reason : Reason) → IsPlaying engine shelf frames (entries timed) → engine.config ≡ new.config → NeverFalls 0 timed → last_of 0 timed ≡ least → same ≡ length timed
+    → lines ≡ map (journal_line (length engine.config.pairs)) timed ++ left → left ≡ line ∷ later → IsReason new frames (entries timed) least line descs right reason
+    → StopsFor new lines descs right same reason
+stops-for engine new shelf frames timed lines left later least same line right descs reason playing config rounds last count are first is = record {
   frames = frames;
   timed = timed;
   legal = subst (λ (d : Config). IsHistory d frames (entries timed)) config playing.run.legal;
@@ -157,11 +172,11 @@ stops-for c engine new shelf frames timed lines left later least same line right
       are ∙ ap (λ (ls : List (List ℕ)). map (journal_line (length engine.config.pairs)) timed ++ ls) first
       ∙ ap (λ (d : Config). map (journal_line (length d.pairs)) timed ++ line ∷ later) config;
   count = count;
-  is = subst (λ (n : ℕ). IsReason c frames (entries timed) n line descs right reason) (sym last) (subst (λ (d : Config). IsReason d frames (entries timed) least line descs right reason) kept is);
+  is = subst (λ (n : ℕ). IsReason new frames (entries timed) n line descs right reason) (sym last) is;
 }
 
 pub stopped : (engine : Engine) (shelf : Places) (frames : List Frame) (h : List Entry) (least : ℕ) (line : List ℕ) (descs : List XdpDesc) (right : List ℕ) (next : Next) (reason : Reason)
-    → GoesOn engine shelf frames h least line descs right next → next ≡ Stops reason → IsReason engine.config frames h least line descs right reason
+    → GoesOn engine shelf frames h least line descs right next → next ≡ Stops reason → IsReason engine frames h least line descs right reason
 stopped engine shelf frames h least line descs right next reason goes is = subst (GoesOn engine shelf frames h least line descs right) is goes
 
 pub followed : (engine : Engine) (shelf : Places) (frames : List Frame) (h : List Entry) (least : ℕ) (line : List ℕ) (descs : List XdpDesc) (right : List ℕ) (next : Next) (round : ℕ)
@@ -172,16 +187,16 @@ pub entries-more : (timed : List Timed) (t : Timed) → entries (timed ++ t ∷ 
 entries-more timed t = map-append (λ (t : Timed). t.entry) timed (t ∷ [])
 
 -- what is told of the line of a text
-pub misfit : (c d : Config) (text : List ℕ) (passed same : ℕ) (journal : List (List ℕ)) (descs : List XdpDesc) (right : List ℕ) (reason : Reason) → passed ≡ length (report_of (lines_of text))
-    → journal ≡ journal_of (lines_of text) → d ≡ c → StopsFor d journal descs right same reason
-    → IsMisfit c text (record { line = passed + same + 1; reason = reason }) (reason_text c.geometry (take (passed + same) (lines_of text)) descs right reason)
-misfit c d text passed same journal descs right reason report are config stops = record {
+pub misfit : (engine : Engine) (text : List ℕ) (passed same : ℕ) (journal : List (List ℕ)) (descs : List XdpDesc) (right : List ℕ) (reason : Reason) → passed ≡ length (report_of (lines_of text))
+    → journal ≡ journal_of (lines_of text) → StopsFor engine journal descs right same reason
+    → IsMisfit engine text (record { line = passed + same + 1; reason = reason }) (reason_text engine.config.geometry (take (passed + same) (lines_of text)) descs right reason)
+misfit engine text passed same journal descs right reason report are stops = record {
   n = same;
   line_is = ap (λ (n : ℕ). n + same + 1) report;
   descs = descs;
   right = right;
-  stops = subst (λ (k : Config). StopsFor k (journal_of (lines_of text)) descs right same reason) config (subst (λ (ls : List (List ℕ)). StopsFor d ls descs right same reason) are stops);
-  told_is = ap (λ (n : ℕ). reason_text c.geometry (take (n + same) (lines_of text)) descs right reason) report;
+  stops = subst (λ (ls : List (List ℕ)). StopsFor engine ls descs right same reason) are stops;
+  told_is = ap (λ (n : ℕ). reason_text engine.config.geometry (take (n + same) (lines_of text)) descs right reason) report;
 }
 
 -- ---- texts

@@ -19,3 +19,4 @@ pub mod Feeds
 pub mod Written
 pub mod Named
 pub mod Following
+pub mod Agreeing

@@ -37,7 +37,7 @@ use Rattle.xsk_audit.specs.Playing.{IsPlaying, IsMadeBy, Makes}
 use Rattle.xsk_audit.proofs.Numbers.{some-value}
 use Rattle.xsk_audit.proofs.Bodied.{with_items, legal-again, its-frame}
 use Rattle.xsk_audit.proofs.Complete.{read-with, read-descs}
-use Rattle.xsk_audit.proofs.Stocks.{lacks-none, stocked-step, with-places, with-length}
+use Rattle.xsk_audit.proofs.Stocks.{had-step, lacks-none, stocked-step, with-places, with-length}
 
 -- ---- what a line tells has no frames
 
@@ -203,6 +203,7 @@ made-legal old engine new places mid frames h who form told items reply bytes pl
       playing = record {
         run = next;
         stocked = stocked-step old.config frames h places mid (entry who call reply) history playing.size kept left playing.stocked;
+        had = had-step old.config frames h places mid (entry who call reply) left playing.had;
         places = subst (λ (c : Config). AreInPlace c.geometry (shelf.with_items mid (taken reply))) same (with-places old.config.geometry mid (taken reply) (taken-framed old.config (own who h) call reply fits) are);
         size = with-length mid (taken reply) ∙ kept ∙ playing.size ∙ ap (λ (c : Config). c.geometry.frames) same;
       };
@@ -248,13 +249,13 @@ as-many told items same = sym (length-map items (λ (i : Item). i.desc)) ∙ ap 
 
 -- ---- the opening
 
+none-there : (count n : ℕ) → shelf.frame_at (replicate count None) n ≡ None
+none-there zero n = refl
+none-there (suc count) zero = refl
+none-there (suc count) (suc n) = none-there count n
+
 none-places : (g : Geometry) (count : ℕ) → AreInPlace g (replicate count None)
-none-places g count n = subst (λ (o : Option Frame). IfSome o (λ (f : Frame). (f.number ≡ n) × (length f.bytes ≡ g.chunk))) (sym (none-at count n)) tt
-  where
-    none-at : (count n : ℕ) → shelf.frame_at (replicate count None) n ≡ None
-    none-at zero n = refl
-    none-at (suc count) zero = refl
-    none-at (suc count) (suc n) = none-at count n
+none-places g count n = subst (λ (o : Option Frame). IfSome o (λ (f : Frame). (f.number ≡ n) × (length f.bytes ≡ g.chunk))) (sym (none-there count n)) tt
 
 length-none : (count : ℕ) → length (replicate {A = Option Frame} count None) ≡ count
 length-none zero = refl
@@ -269,6 +270,7 @@ opened-playing engine c frames places opened same shows log empty = record {
     log = log;
   };
   stocked = λ who n some. absurd (omega (arith, some));
+  had = λ n there. absurd (omega (arith, sym there ∙ ap (λ (p : Places). has p n) empty ∙ ap shelf.one (none-there c.geometry.frames n)));
   places = subst (AreInPlace engine.config.geometry) (sym empty) (none-places engine.config.geometry c.geometry.frames);
   size = ap length empty ∙ length-none c.geometry.frames ∙ ap (λ (d : Config). d.geometry.frames) (sym same);
 }

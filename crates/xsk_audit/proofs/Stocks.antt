@@ -1,5 +1,5 @@
--- The shelf has each frame that a caller has.
-use Rattle.std.proofs.Common.{◌≡◌, ℕ, ◌+◌, ◌<◌, ◌≤◌, List, [], ◌∷◌, ◌++◌, length, set, All, Option, Some, None, refl, sym, ap, subst, ◌∙◌, arith, inl, inr, length-set}
+-- The shelf has each frame that a caller has, and no other.
+use Rattle.std.proofs.Common.{◌≡◌, ℕ, ◌+◌, ◌-◌, ◌<◌, ◌≤◌, List, [], ◌∷◌, ◌++◌, length, set, All, Option, Some, None, refl, sym, ap, subst, ◌∙◌, arith, inl, inr, length-set}
 use Rattle.std.proofs.lemmas.Bool.{cases_eq, cases_lt}
 use Rattle.std.proofs.lemmas.List.Elements.{All-head, All-tail}
 use Rattle.xsk_umem.specs.Frame.{Frame}
@@ -14,14 +14,14 @@ use Rattle.xsk_model.specs.Legal.{IsLegal}
 use Rattle.xsk_model.specs.History.{IsHistory, state_after}
 use Rattle.xsk_model.specs.declared.call.Call.{Call}
 use Rattle.xsk_model.specs.declared.call.Call.TheVariants.{Reserve, Submit, Peek, Release, Swap, Look}
-use Rattle.xsk_model.proofs.Counting.{times-append, times-without}
+use Rattle.xsk_model.proofs.Counting.{times-append, times-without, its_own}
 use Rattle.xsk_model.proofs.Distinct.{elsewhere}
 use Rattle.xsk_model.proofs.Folds.{own-push_same, own-push_other, had_of-push}
 use Rattle.xsk_model.proofs.Histories.{history_sound, history_first}
 use Rattle.xsk_model.proofs.Replies.{times-had}
 use Rattle.xsk_model.proofs.FrameTheorems.{frames_below, submits_own}
 use Rattle.xsk_audit.specs.Shelf.{Places, frame_at, one, has, AreInPlace, with_frame, with_items, needed, descs_of, HasItsFrame, Lacks}
-use Rattle.xsk_audit.specs.Playing.{IsStocked}
+use Rattle.xsk_audit.specs.Playing.{AreHad, IsStocked}
 use Rattle.xsk_audit.proofs.Shelves.{set-here, set-other, places-with, numbers-needed, none-behind}
 use Rattle.xsk_audit.proofs.Bodied.{its-frame}
 
@@ -40,7 +40,7 @@ with-places g places [] all are = are
 with-places g places (item ∷ items) all are =
     with-places g (with_frame places item.frame) items (All-tail (HasItsFrame g) item items all) (places-with g places item.frame (All-head (HasItsFrame g) item items all).1 are)
 
-at-most : (places : Places) (n : ℕ) → has places n ≤ 1
+pub at-most : (places : Places) (n : ℕ) → has places n ≤ 1
 at-most places n = by (frame_at places n)
   where
     by : (o : Option Frame) → one o ≤ 1
@@ -83,11 +83,25 @@ with-there places (item ∷ items) n within some = elim (cases_lt 0 (times n (nu
       omega (arith, here, with-more (with_frame places item.frame) items n, at-most (with_items (with_frame places item.frame) items) n)
 ]
 
+-- a place stays as it is where no frame is put there
+with-one-none : (places : Places) (o : Option Frame) (n : ℕ) → times n (number_of o) ≤ 0 → has (with_frame places o) n ≡ has places n
+with-one-none places None n none = refl
+with-one-none places (Some f) n none = elim (cases_eq f.number n) [
+  | inl same ↦ absurd (omega (arith, none, its_own f.number n same))
+  | inr other ↦ ap one (set-other places f.number n (Some f) (λ is. other (sym is)))
+]
+
+with-none : (places : Places) (items : List Item) (n : ℕ) → times n (numbers items) ≤ 0 → has (with_items places items) n ≡ has places n
+with-none places [] n none = refl
+with-none places (item ∷ items) n none =
+    let split = times-append n (number_of item.frame) (numbers items) in
+    with-none (with_frame places item.frame) items n (omega (arith, none, split)) ∙ with-one-none places item.frame n (omega (arith, none, split))
+
 module _ (c : Config) (frames : List Frame) (h : List Entry) (places : Places) where
   abbrev had : ℕ → ℕ → ℕ
   had who n = times n (had_of (own who h))
 
-  needs : (who : ℕ) (call : Call) → IsLegal c (own who h) who call → (n : ℕ) → times n (needed c.geometry (descs_of (submitted call))) ≤ had who n
+  pub needs : (who : ℕ) (call : Call) → IsLegal c (own who h) who call → (n : ℕ) → times n (needed c.geometry (descs_of (submitted call))) ≤ had who n
   needs who (Reserve r k) legal n = omega arith
   needs who (Submit r items) legal n = omega (arith, legal.frames n, ap (times n) (numbers-needed c.geometry items (its-frame c.geometry r items legal.items)))
   needs who (Peek r k) legal n = omega arith
@@ -140,3 +154,31 @@ module _ (c : Config) (frames : List Frame) (h : List Entry) (places : Places) w
         | inl is ↦ its_own_left is none
         | inr other ↦ others_left other
       ]
+
+  -- and none lies there that no caller has
+  pub had-step : (mid : Places) (e : Entry) → ((n : ℕ) → has mid n + times n (numbers (submitted e.call)) ≡ has places n) → AreHad h places → AreHad (h ++ e ∷ []) (with_items mid (taken e.reply))
+  had-step mid e left known n there = elim (cases_lt 0 (times n (numbers (taken e.reply)))) [
+    | inl came ↦ (e.who, omega (arith, came, grown e.who refl))
+    | inr none ↦ stays none
+  ]
+    where
+      grown : (who : ℕ) → e.who ≡ who → times n (had_of (own who (h ++ e ∷ []))) ≡ times n (had_of (own who h)) - times n (numbers (submitted e.call)) + times n (numbers (taken e.reply))
+      grown who is =
+          let now : had_of (own who (h ++ e ∷ [])) ≡ had_after (had_of (own who h)) e.call e.reply = ap had_of (own-push_same who h e is) ∙ had_of-push (own who h) (told e) in
+          let count : times n (had_after (had_of (own who h)) e.call e.reply) ≡ times n (without (numbers (submitted e.call)) (had_of (own who h))) + times n (numbers (taken e.reply)) =
+          times-append n (without (numbers (submitted e.call)) (had_of (own who h))) (numbers (taken e.reply)) in
+          omega (arith, ap (times n) now, count, times-without n (numbers (submitted e.call)) (had_of (own who h)))
+
+      stays : times n (numbers (taken e.reply)) ≤ 0 → (who : ℕ) × (1 ≤ times n (had_of (own who (h ++ e ∷ []))))
+      stays none =
+          let before : has mid n ≡ 1 = sym (with-none mid (taken e.reply) n none) ∙ there in
+          let here : has places n ≡ 1 = omega (arith, before, left n, at-most places n) in
+          let kept : times n (numbers (submitted e.call)) ≤ 0 = omega (arith, before, left n, at-most places n) in
+          let one = known n here in
+          (one.0, still one.0 kept one.1)
+        where
+          still : (who : ℕ) → times n (numbers (submitted e.call)) ≤ 0 → 1 ≤ times n (had_of (own who h)) → 1 ≤ times n (had_of (own who (h ++ e ∷ [])))
+          still who kept some = elim (cases_eq e.who who) [
+            | inl is ↦ omega (arith, some, kept, grown who is)
+            | inr other ↦ omega (arith, some, ap (λ mine. times n (had_of mine)) (own-push_other who h e other))
+          ]

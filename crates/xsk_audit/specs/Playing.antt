@@ -16,10 +16,15 @@ use Rattle.xsk_audit.specs.Telling.{AreMade}
 abbrev pub IsStocked : List Entry → Places → Type 0
 IsStocked h places = (who n : ℕ) → 1 ≤ times n (had_of (own who h)) → has places n ≡ 1
 
+-- and each frame on the shelf some caller has
+abbrev pub AreHad : List Entry → Places → Type 0
+AreHad h places = (n : ℕ) → has places n ≡ 1 → (who : ℕ) × (1 ≤ times n (had_of (own who h)))
+
 -- a history was made on the engine, and the frames of its callers lie on the shelf
 pub record IsPlaying (engine : Engine) (shelf : Places) (frames : List Frame) (h : List Entry) : Type 0 where
   pub run : HasRun engine frames h
   pub stocked : IsStocked h shelf
+  pub had : AreHad h shelf
   pub places : AreInPlace engine.config.geometry shelf
   pub size : length shelf ≡ engine.config.geometry.frames
 

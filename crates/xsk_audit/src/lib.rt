@@ -15,5 +15,5 @@ mod words;
 
 pub use auditing::{Verdicts, audit};
 pub use reasons::Reason;
-pub use why::{Misfit, why_not_legal};
+pub use why::{Misfit, Stopped, why_not_legal};
 pub use xsk_legal::Illegal;

@@ -33,6 +33,14 @@ pub struct Misfit {
     pub reason: Reason,
 }
 
+/// Where a journal stops being that of a legal history: the line, and the object there. The object has made the calls of the lines
+/// before it, and the line's own where that is legal, so that the reply or the round alone is wrong.
+#[derive(Drop)]
+pub struct Stopped {
+    pub misfit: Misfit,
+    pub object: Checked,
+}
+
 /// The first line that can't follow those before it in the journal of a legal history, which is the one that `audit` tells, and
 /// why it can't. What is told of it stands behind what `out` held.
 ///
@@ -46,10 +54,10 @@ pub fn why_not_legal(
     frames: Frames,
     text: &[u8],
     out: &mut Vec<u8>,
-) -> Result<Option<Misfit>, OutOfMemory>
+) -> Result<Option<Stopped>, OutOfMemory>
     requires lawful { IsLawful config }
     requires frames { AreFrames config.geometry frames.items }
-    ensures { IfOk result (λ misfit. TellsWhy config text.now out.old.items out.new.items misfit) }
+    ensures { IfOk result (λ stop. TellsWhy config text.now out.old.items out.new.items stop) }
 {
     // For the proof: it is a configuration (IsConfig).
     let _pairs = config.pairs();
@@ -85,9 +93,13 @@ pub fn why_not_legal(
         line.bytes(),
         reason,
     )?;
-    Ok(Some(Misfit {
+    let misfit = Misfit {
         line: passed + same + 1,
         reason,
+    };
+    Ok(Some(Stopped {
+        misfit,
+        object: checked,
     }))
 }
 
@@ -105,7 +117,7 @@ fn follow(
     requires none { checked.old.calls ≡ 0 }
     requires told { told.old ≡ [] }
     ensures config { checked.new.config ≡ checked.old.config }
-    ensures follows { IfOk result (λ stop. FollowsUpTo checked.old.config (lines_of text.now) (descs_of told.new) right.new stop) }
+    ensures follows { IfOk result (λ stop. FollowsUpTo checked.new (lines_of text.now) (descs_of told.new) right.new stop) }
     ensures few { IfOk result (λ found. IfSome found (λ stop. stop.0 < length text.now)) }
 {
     let mut rest = text;

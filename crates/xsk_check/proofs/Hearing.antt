@@ -9,7 +9,8 @@ use Rattle.xsk_side.specs.declared.setting.SettingError.{SettingError}
 use Rattle.xsk_side.specs.declared.call.Call.{Call}
 use Rattle.xsk_side.specs.declared.call.Call.TheVariants.{Reserve, Free, Submit, Peek, Release, Cancel}
 use Rattle.xsk_side.proofs.Fits.{possible_fits}
-use Rattle.xsk_judge.specs.Stands.{Line, IsReady as IsReadyJudge, IsWhy, StandsFor as StandsForLines, calls_of as calls_in}
+use Rattle.xsk_judge.specs.Stands.{Line, IsWhy, StandsFor as StandsForLines, calls_of as calls_in}
+use Rattle.xsk_judge.specs.Reasons.{IsReasonOf}
 use Rattle.xsk_judge.specs.declared.why.Why.{Why}
 use Rattle.xsk_judge.specs.declared.why.Why.TheVariants.{Rule, Kernel, TooMany}
 use Rattle.xsk_lines.specs.Lines.{lines_of}
@@ -21,7 +22,7 @@ use Rattle.xsk_recording.specs.declared.head.Next.{Next}
 use Rattle.xsk_recording.specs.declared.head.Next.TheVariants.{Title, Umem, Pairs, Sockets, Mark, Calls}
 use Rattle.xsk_recording.specs.declared.reading.Event.TheVariants as an_event
 use Rattle.xsk_recording.specs.declared.verdict.Verdict.TheVariants as a_verdict
-use Rattle.xsk_check.specs.Checking.{Checked, lines_of_calls, Judges, IsHeard, Heard, HasTold, IsFoundAt}
+use Rattle.xsk_check.specs.Checking.{Checked, lines_of_calls, IsOpen, Follows, Judges, IsHeard, Heard, HasTold, IsFoundAt}
 use Rattle.xsk_recording.specs.Counts.{IsCounted}
 use Rattle.xsk_check.specs.declared.check.Court.{Court}
 use Rattle.xsk_recording.proofs.Small.{IsSmallCall}
@@ -40,7 +41,7 @@ same-calls (n ∷ calls) = ap (λ (cs : List Call). n.call ∷ cs) (same-calls c
 judges-sound : (r : Read) (court : Option Court) → Judges r court → Possible r.header.setting (calls_of r.calls)
 judges-sound r None judges = absurd judges
 judges-sound r (Some court) judges =
-    subst (λ (s : Setting). Possible s (calls_of r.calls)) judges.0 (subst (Possible court.setting) (same-calls r.calls) judges.2.possible)
+    subst (λ (s : Setting). Possible s (calls_of r.calls)) judges.0 (subst (Possible court.setting) (same-calls r.calls) judges.2.stands.possible)
 
 pub heard-sound : (next : Next) (r : Read) (court : Option Court) → IsHeard next r court → IsSound next r
 heard-sound Title r court heard = tt
@@ -66,7 +67,7 @@ judges-same r n None setting calls judges = judges
 judges-same r n (Some court) setting calls judges = (
   judges.0 ∙ sym setting,
   judges.1,
-  subst (λ (cs : List Numbered). StandsForLines court.setting court.judge (lines_of_calls cs)) (sym calls) judges.2,
+  subst (λ (cs : List Numbered). Follows court (lines_of_calls cs)) (sym calls) judges.2,
 )
 
 calls-heard : (n : Read) (court : Option Court) → n.header.next ≡ Calls → Judges n court → IsHeard n.header.next n court
@@ -111,9 +112,8 @@ early-calls Mark r n court is leads mark heard = heard.1
 early-calls Calls r n court is leads mark heard = cc (sym mark ∙ ap (λ (h : Header). h.next) leads ∙ is)
 
 pub told-setting : (old new : Checked) (court : Court) (r n : Read) (xs : List ℕ) → new.court ≡ Some court → new.calls ≡ old.calls
-    → IsReadyJudge court.setting court.judge → StandsForLines court.setting court.judge [] → Heard old r → HasTold r xs (an_event.Setting court.setting)
-    → line_after r xs ≡ Some n → Heard new n
-told-setting old new court r n xs is calls ready stands heard told after =
+    → IsOpen court → Follows court [] → Heard old r → HasTold r xs (an_event.Setting court.setting) → line_after r xs ≡ Some n → Heard new n
+told-setting old new court r n xs is calls opens follows heard told after =
     let same = same-next r told.read n xs told.is after in
     let as_before : n.calls ≡ r.calls = ap (λ (x : Read). x.calls) (sym same) ∙ told.calls_are in
     let mark : n.header.next ≡ Mark = ap (λ (x : Read). x.header.next) (sym same) ∙ told.rest.1 in
@@ -123,7 +123,7 @@ told-setting old new court r n xs is calls ready stands heard told after =
       court =
           subst (IsHeard n.header.next n) (sym is)
           (subst (λ (k : Next). IsHeard k n (Some court)) (sym mark)
-          ((sym setting, ready, subst (λ (cs : List Numbered). StandsForLines court.setting court.judge (lines_of_calls cs)) (sym none) stands), none));
+          ((sym setting, opens, subst (λ (cs : List Numbered). Follows court (lines_of_calls cs)) (sym none) follows), none));
       calls = calls ∙ heard.calls ∙ ap (λ (l : List Numbered). length l) (sym as_before);
     }
 
@@ -153,23 +153,23 @@ pub told-judges : (checked : Checked) (r : Read) (xs : List ℕ) (call : Call) �
 told-judges checked r xs call heard told = judges-calls r checked.court (in-calls r xs call told) heard.court
 
 pub called : (old new : Checked) (court after : Court) (r n : Read) (xs : List ℕ) (line : ℕ) (call : Call) → old.court ≡ Some court → new.court ≡ Some after
-    → new.calls ≡ old.calls + 1 → after.setting ≡ court.setting → IsReadyJudge after.setting after.judge
-    → ((lines : List Line) → StandsForLines court.setting court.judge lines → StandsForLines after.setting after.judge (record { line = line; call = call } ∷ lines))
+    → new.calls ≡ old.calls + 1 → after.setting ≡ court.setting → IsOpen after
+    → ((lines : List Line) → Follows court lines → Follows after (record { line = line; call = call } ∷ lines))
     → line ≡ r.lines + 1 → Heard old r → HasTold r xs (an_event.Call call) → line_after r xs ≡ Some n → Heard new n
-called old new court after r n xs line call was is calls setting ready stands number heard told next =
+called old new court after r n xs line call was is calls setting opens follows number heard told next =
     let same = same-next r told.read n xs told.is next in
     let header = same-header r n xs call told next in
     let judges : Judges r (Some court) = subst (Judges r) was (told-judges old r xs call heard told) in
     let told_calls : n.calls ≡ record { line = r.lines + 1; call = call } ∷ r.calls = ap (λ (x : Read). x.calls) (sym same) ∙ told.calls_are in
-    let stood : StandsForLines after.setting after.judge (record { line = r.lines + 1; call = call } ∷ lines_of_calls r.calls) =
-    subst (λ (k : ℕ). StandsForLines after.setting after.judge (record { line = k; call = call } ∷ lines_of_calls r.calls)) number (stands (lines_of_calls r.calls) judges.2) in
+    let followed : Follows after (record { line = r.lines + 1; call = call } ∷ lines_of_calls r.calls) =
+    subst (λ (k : ℕ). Follows after (record { line = k; call = call } ∷ lines_of_calls r.calls)) number (follows (lines_of_calls r.calls) judges.2) in
     record {
       court =
           calls-heard n new.court (ap (λ (h : Header). h.next) header ∙ in-calls r xs call told)
           (subst (Judges n) (sym is) (
             setting ∙ judges.0 ∙ ap (λ (h : Header). h.setting) (sym header),
-            ready,
-            subst (λ (cs : List Numbered). StandsForLines after.setting after.judge (lines_of_calls cs)) (sym told_calls) stood,
+            opens,
+            subst (λ (cs : List Numbered). Follows after (lines_of_calls cs)) (sym told_calls) followed,
           ));
       calls = calls ∙ ap (λ k. k + 1) heard.calls ∙ sym (ap (λ (l : List Numbered). length l) told_calls ∙ omega arith);
     }
@@ -194,7 +194,7 @@ few-strays : (s : Setting) (r : Read) → IsCounted r → (d : ℕ) → strays_g
 few-strays s r counted d = rw (same-calls r.calls) (omega (arith, counted.1, counted.2 s d))
 
 pub found-call : (checked : Checked) (court : Court) (r : Read) (xs : List ℕ) (line : ℕ) (call : Call) (why : Why) → checked.court ≡ Some court
-    → ((lines : List Line) → StandsForLines court.setting court.judge lines → IsWhy court.setting lines call why)
+    → ((lines : List Line) → StandsForLines court.setting court.judge lines → IsWhy court.setting lines call why × IsReasonOf court.setting lines line call why)
     → line ≡ r.lines + 1 → Heard checked r → IsCounted r → HasTold r xs (an_event.Call call)
     → IsFoundAt r xs (record { verdict = a_verdict.NotPossible line; blame = Some (record { call = call; why = why }) })
 found-call checked court r xs line call why was reason number heard counted told text later begins =
@@ -203,8 +203,9 @@ found-call checked court r xs line call why was reason number heard counted told
     let header = same-header r n xs call told told.is in
     let setting : n.header.setting ≡ r.header.setting = ap (λ (h : Header). h.setting) header in
     let judges : Judges r (Some court) = subst (Judges r) was (told-judges checked r xs call heard told) in
-    let is : IsWhy n.header.setting (lines_of_calls r.calls) call why =
-    subst (λ (s : Setting). IsWhy s (lines_of_calls r.calls) call why) (judges.0 ∙ sym setting) (reason (lines_of_calls r.calls) judges.2) in
+    let is : IsWhy n.header.setting (lines_of_calls r.calls) call why × IsReasonOf n.header.setting (lines_of_calls r.calls) line call why =
+    subst (λ (s : Setting). IsWhy s (lines_of_calls r.calls) call why × IsReasonOf s (lines_of_calls r.calls) line call why) (judges.0 ∙ sym setting)
+    (reason (lines_of_calls r.calls) judges.2.stands) in
     let calls : calls_of n.calls ≡ call ∷ calls_in (lines_of_calls r.calls) =
     ap calls_of told.calls_are ∙ ap (λ (cs : List Call). call ∷ cs) (sym (same-calls r.calls)) in (
       (
@@ -216,7 +217,7 @@ found-call checked court r xs line call why was reason number heard counted told
         told.is,
         ap (λ (h : Header). h.next) header ∙ in-calls r xs call told,
         λ possible.
-            why-not n.header.setting (lines_of_calls r.calls) call why is (few-strays n.header.setting r counted)
+            why-not n.header.setting (lines_of_calls r.calls) call why is.0 (few-strays n.header.setting r counted)
             (call-small-of r n xs (record { line = r.lines + 1; call = call }) told.is told.calls_are)
             (subst (Possible n.header.setting) calls possible),
         number ∙ sym step.lines,
@@ -229,7 +230,8 @@ found-call checked court r xs line call why was reason number heard counted told
         begins = begins;
         after = told.is;
         calls = subst (λ (k : ℕ). n.calls ≡ record { line = k; call = call } ∷ r.calls) (sym number) told.calls_are;
-        why = is;
+        why = is.0;
+        reason = is.1;
       },
     )
 

@@ -3,6 +3,10 @@ use Rattle.std.specs.Prelude.{◌≡◌, ℕ, Option, Some, None, List, [], ◌�
 use Rattle.std.specs.Borrow.{Bor}
 use Rattle.xsk_side.specs.Setting.{Setting}
 use Rattle.xsk_judge.specs.Stands.{Line, IsReady as IsReadyJudge, IsWhy, StandsFor as StandsForLines}
+use Rattle.xsk_judge.specs.Reasons.{IsReasonOf}
+use Rattle.xsk_hints.specs.Noted.{IsSized, Notes}
+use Rattle.xsk_hints.specs.Fills.{Feeds, fills_text}
+use Rattle.xsk_hints.specs.Told.{hints_text}
 use Rattle.xsk_recording.specs.Text.{Numbered, Read, line_after}
 use Rattle.xsk_recording.specs.Feeding.{Reader, StandsFor as StandsForText, Tells}
 use Rattle.xsk_recording.specs.Verdict.{Begins, IsVerdict}
@@ -16,7 +20,7 @@ use Rattle.xsk_check.specs.declared.check.Court.{Court}
 use Rattle.xsk_check.specs.declared.finding.Blame.{Blame}
 use Rattle.xsk_check.specs.declared.finding.Finding.{Finding}
 
--- what a check keeps: what its reader keeps, and, once the setting is told, the judge; and how many calls were judged
+-- what a check keeps: what its reader keeps, and, once the setting is told, the judge and the hints; and how many calls were judged
 pub record Checked : Type 0 where
   pub reading : Reader
   pub court : Option Court
@@ -40,10 +44,24 @@ line_of n = record { line = n.line; call = n.call }
 abbrev pub lines_of_calls : List Numbered → List Line
 lines_of_calls calls = map line_of calls
 
--- the judge is that of the header's setting, and stands for the calls
+pub record IsOpen (court : Court) : Type 0 where
+  pub ready : IsReadyJudge court.setting court.judge
+  pub sized : IsSized court.setting court.hints
+  pub pairs : length court.fills ≡ length court.setting.pairs
+
+-- the judge stands for these lines, and the hints are on them
+pub record Follows (court : Court) (lines : List Line) : Type 0 where
+  pub stands : StandsForLines court.setting court.judge lines
+  pub notes : Notes court.setting court.hints lines
+  pub feeds : Feeds court.setting court.fills lines
+
+abbrev pub hints_on : Setting → List Line → List ℕ
+hints_on s lines = hints_text s lines ++ fills_text s lines
+
+-- they are those of the header's setting and of its calls
 abbrev pub Judges : Read → Option Court → Type 0
 Judges r None = ⊥
-Judges r (Some court) = (court.setting ≡ r.header.setting) × IsReadyJudge court.setting court.judge × StandsForLines court.setting court.judge (lines_of_calls r.calls)
+Judges r (Some court) = (court.setting ≡ r.header.setting) × IsOpen court × Follows court (lines_of_calls r.calls)
 
 -- there is one from the line of the kernel on
 abbrev pub IsHeard : Next → Read → Option Court → Type 0
@@ -69,7 +87,7 @@ IsReady checked = (text : List ℕ) × StandsFor checked text
 
 -- ---- what is found
 
--- the call of a line, and why it isn't possible after those before it
+-- the call of a line, and why it isn't possible after those before it: the first reason of the judge's table
 pub record IsReason (text : List ℕ) (line : ℕ) (blame : Blame) : Type 0 where
   pub read : Read
   pub last : List ℕ
@@ -79,11 +97,13 @@ pub record IsReason (text : List ℕ) (line : ℕ) (blame : Blame) : Type 0 wher
   pub after : line_after read last ≡ Some next
   pub calls : next.calls ≡ record { line = line; call = blame.call } ∷ read.calls
   pub why : IsWhy next.header.setting (lines_of_calls read.calls) blame.call blame.why
+  pub reason : IsReasonOf next.header.setting (lines_of_calls read.calls) line blame.call blame.why
 
+-- what only the end of a text can tell isn't found before it
 abbrev pub IsBlamed : List ℕ → Verdict → Option Blame → Type 0
-IsBlamed text a_verdict.Empty blame = blame ≡ None
-IsBlamed text a_verdict.NoCalls blame = blame ≡ None
-IsBlamed text (a_verdict.Possible calls) blame = blame ≡ None
+IsBlamed text a_verdict.Empty blame = ⊥
+IsBlamed text a_verdict.NoCalls blame = ⊥
+IsBlamed text (a_verdict.Possible calls) blame = ⊥
 IsBlamed text (a_verdict.NotPossible line) None = ⊥
 IsBlamed text (a_verdict.NotPossible line) (Some blame) = IsReason text line blame
 IsBlamed text (a_verdict.NoRecording line) blame = blame ≡ None
@@ -91,6 +111,17 @@ IsBlamed text (a_verdict.NoSetting line error) blame = blame ≡ None
 
 abbrev pub IsFound : List ℕ → Finding → Type 0
 IsFound text finding = IsVerdict text finding.verdict × IsBlamed text finding.verdict finding.blame
+
+-- ---- the end
+
+-- the hints on a recording that is whole: on all its calls, each with the number of its line
+pub record AreHints (text hints : List ℕ) : Type 0 where
+  pub read : Read
+  pub begins : Begins text [] read
+  pub calls : read.header.next ≡ Calls
+  pub text_is : hints ≡ hints_on read.header.setting (lines_of_calls read.calls)
+
+-- ---- pieces
 
 -- a piece more was read; or a part of it, which settles the verdict whatever follows
 abbrev pub Goes : Checked → List ℕ → List ℕ → Option Finding → Type 0

@@ -1,27 +1,31 @@
-//! The check of a recording: it is read in pieces of any size, and each call is judged.
-ghost use Rattle.std.specs.Prelude.{◌≡◌, ◌≢◌, ◌+◌, ◌<◌, ◌++◌, ◌∷◌, [], ℕ, List, IfErr, IfOk, None, Some, length};
+//! The check of a recording: it is read in pieces of any size, and each call is judged, and noted for the hints.
+ghost use Rattle.std.specs.Prelude.{◌≡◌, ◌≢◌, ◌+◌, ◌<◌, ◌++◌, ◌∷◌, [], ℕ, List, IfErr, IfOk, OnOk, None, Some, length};
 ghost use Rattle.xsk_recording.specs.Text.{Read};
 ghost use Rattle.xsk_recording.specs.Counts.{IsCounted};
 ghost use Rattle.xsk_recording.specs.Verdict.{IsVerdict};
-ghost use Rattle.xsk_judge.specs.Stands.{Line, IsReady as IsReadyJudge, IsWhy, StandsFor as StandsForLines};
-ghost use Rattle.xsk_check.specs.Checking.{Goes, HasTold, Heard, Hears, IsReady, StandsFor, Steps, setting_in, setting_view};
+ghost use Rattle.xsk_judge.specs.Stands.{Line, IsWhy, StandsFor as StandsForLines};
+ghost use Rattle.xsk_judge.specs.Reasons.{IsReasonOf};
+ghost use Rattle.xsk_check.specs.Checking.{AreHints, Follows, Goes, HasTold, Heard, Hears, IsOpen, IsReady, StandsFor, Steps, hints_on, setting_in, setting_view};
 
 use crate::finding::{Blame, Finding};
 use std::alloc::Global;
 use std::marker::Model;
+use xsk_hints::{Fills, Hints};
 use xsk_judge::{Judge, Why};
 use xsk_recording::{Event, Reading, Verdict};
 use xsk_side::{Call, Setting};
 use xsk_umem::OutOfMemory;
 
-/// The setting of a recording's header, and the judge of its calls.
+/// The setting of a recording's header, the judge of its calls, and the hints on them.
 #[derive(Drop)]
 pub(crate) struct Court {
     setting: Setting,
     judge: Judge,
+    hints: Hints,
+    fills: Fills,
 }
 
-/// A recording that is read in pieces and judged. It keeps what its reader and its judge keep, and a copy of a begun line.
+/// A recording that is read in pieces and judged. It keeps what its reader, its judge and its hints keep, and a copy of a begun line.
 #[derive(Drop)]
 pub struct Check {
     alloc: Global,
@@ -58,6 +62,19 @@ impl Check {
         ensures { (text : List ℕ) → StandsFor self.now text → IsVerdict text result }
     {
         self.reading.verdict(self.calls)
+    }
+
+    /// Puts behind a text what is possible and surely unwanted in the calls so far, and where all frames are: a line for each, and none
+    /// where the setting isn't told. It fails for want of memory alone.
+    pub fn append_hints(&self, text: &mut Vec<u8>) -> Result<(), OutOfMemory>
+        requires { IsReady self.now }
+        ensures { (bytes : List ℕ) (calls : ℕ) → StandsFor self.now bytes → IsVerdict bytes (Verdict.Possible calls)
+            → OnOk result ((hints : List ℕ) × AreHints bytes hints × (text.new.items ≡ text.old.items ++ hints)) }
+    {
+        match &self.court {
+            Some(court) => push_hints(text, court),
+            None => Ok(()),
+        }
     }
 
     /// The setting, once the header's line of the kernel was read.
@@ -131,8 +148,8 @@ impl Check {
             Event::Begun => Ok(None),
             Event::Passed => Ok(None),
             Event::Setting(setting) => {
-                let judge = Judge::new(self.alloc, &setting)?;
-                self.court = Some(Court { setting, judge });
+                let court = open_court(self.alloc, setting)?;
+                self.court = Some(court);
                 Ok(None)
             }
             Event::NoSetting(error) => Ok(Some(settled(Verdict::NoSetting { line, error }))),
@@ -169,16 +186,45 @@ fn has_ended(part: &[u8]) -> bool {
     }
 }
 
-/// The judge judges the next call.
-fn step(court: &mut Court, line: u64, call: &Call) -> Result<(), Why>
-    requires { IsReadyJudge court.old.setting court.old.judge }
-    ensures setting { court.new.setting ≡ court.old.setting }
-    ensures ready { IfOk result (λ _. IsReadyJudge court.new.setting court.new.judge) }
-    ensures stands { IfOk result (λ _. (lines : List Line) → StandsForLines court.old.setting court.old.judge lines
-        → StandsForLines court.new.setting court.new.judge (record { line = line; call = call.now } ∷ lines)) }
-    ensures why { IfErr result (λ why. (lines : List Line) → StandsForLines court.old.setting court.old.judge lines → IsWhy court.old.setting lines call.now why) }
+/// The judge and the hints of a setting, before the first call.
+fn open_court(alloc: Global, setting: Setting) -> Result<Court, OutOfMemory>
+    ensures setting { IfOk result (λ court. court.setting ≡ setting) }
+    ensures opens { IfOk result IsOpen }
+    ensures follows { IfOk result (λ court. Follows court []) }
 {
-    court.judge.step(&court.setting, line, call)
+    let judge = Judge::new(alloc, &setting)?;
+    let hints = Hints::new(alloc, &setting)?;
+    let fills = Fills::new(alloc, &setting)?;
+    Ok(Court {
+        setting,
+        judge,
+        hints,
+        fills,
+    })
+}
+
+/// Puts the hints behind a text.
+fn push_hints(text: &mut Vec<u8>, court: &Court) -> Result<(), OutOfMemory>
+    requires { IsOpen court.now }
+    ensures { (lines : List Line) → Follows court.now lines → OnOk result (text.new.items ≡ text.old.items ++ hints_on court.now.setting lines) }
+{
+    court.hints.append(text, &court.setting, &court.judge)?;
+    court.fills.append(text, &court.setting)
+}
+
+/// The judge judges the next call; one that is possible is noted.
+fn step(court: &mut Court, line: u64, call: &Call) -> Result<(), Why>
+    requires { IsOpen court.old }
+    ensures setting { court.new.setting ≡ court.old.setting }
+    ensures opens { IfOk result (λ _. IsOpen court.new) }
+    ensures follows { IfOk result (λ _. (lines : List Line) → Follows court.old lines → Follows court.new (record { line = line; call = call.now } ∷ lines)) }
+    ensures why { IfErr result (λ why. (lines : List Line) → StandsForLines court.old.setting court.old.judge lines
+        → IsWhy court.old.setting lines call.now why × IsReasonOf court.old.setting lines line call.now why) }
+{
+    court.fills.note(&court.setting, &court.judge, line, call);
+    court.judge.step(&court.setting, line, call)?;
+    court.hints.note(&court.setting, line, call);
+    Ok(())
 }
 
 /// A verdict that no call is blamed for.

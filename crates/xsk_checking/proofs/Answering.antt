@@ -1,25 +1,26 @@
 -- What a check answers: what was read and judged, and then what is told.
-use Rattle.std.proofs.Common.{◌≡◌, ℕ, Option, Some, None, List, ◌++◌, inl, inr, refl, sym, ap, ◌∙◌, subst}
-use Rattle.std.specs.Prelude.{Result, Ok, Err, IfOk, OnOk, OnErr, ◌⊎◌}
+use Rattle.std.proofs.Common.{◌≡◌, ℕ, Option, Some, None, List, [], ◌++◌, inl, inr, refl, sym, ap, ◌∙◌, subst, append-nil}
+use Rattle.std.specs.Prelude.{Result, Ok, Err, IfOk, OnOk, OnErr}
 use Rattle.xsk_args.specs.Words.{Text}
 use Rattle.xsk_io.specs.Bay.{CountsOnly, Grows, GrowsByPart, Moment, Rose, Same}
 use Rattle.xsk_io.specs.declared.bay.BayFailed.{BayFailed}
 use Rattle.xsk_io.specs.declared.bay.Kind.{Kind}
-use Rattle.xsk_io.specs.declared.bay.Kind.TheVariants.{Open, Read, Write}
+use Rattle.xsk_io.specs.declared.bay.Kind.TheVariants.{Write}
 use Rattle.xsk_io.specs.declared.bay.Stream.{Stream}
 use Rattle.xsk_io.specs.declared.bay.Stream.TheVariants.{Input, Report}
 use Rattle.xsk_recording.specs.Verdict.{IsVerdict}
 use Rattle.xsk_recording.specs.declared.verdict.Verdict.{Verdict}
 use Rattle.xsk_recording.specs.declared.verdict.Verdict.TheVariants as a_verdict
-use Rattle.xsk_checking.specs.Ending.{verdict_text, line_of, IsTold, IsFaultOf, GotText, IsReported, Comes, Ends, IsAnswer, Settles, HasBytes, HasJudged, HasFailed}
-use Rattle.xsk_check.specs.Checking.{Checked}
+use Rattle.xsk_checking.specs.Ending.{verdict_text, line_of, IsTold, IsFaultOf, IsBehind, HasTold, MayFollow, GotText, IsReported, Comes, Ends, IsAnswer, Settles, HasBytes, HasJudged, HasFailed}
+use Rattle.xsk_check.specs.Checking.{AreHints, Checked, StandsFor, IsFound, IsBlamed}
+use Rattle.xsk_check.specs.declared.finding.Blame.{Blame}
 use Rattle.xsk_check.specs.declared.finding.Finding.{Finding}
 use Rattle.xsk_checking.specs.declared.checking.Report.{Report as Told}
 use Rattle.xsk_checking.specs.declared.end.End.{End}
 use Rattle.xsk_checking.specs.declared.end.End.TheVariants.{Judged, Failed}
 use Rattle.xsk_checking.specs.declared.end.Failure.{Failure}
 use Rattle.xsk_checking.specs.declared.end.Failure.TheVariants.{Usage, Unopened, Unread, Unwritten, OutOfMemory}
-use Rattle.xsk_checking.proofs.Faults.{Unchanged, but-its-own}
+use Rattle.xsk_checking.proofs.Faults.{but-its-own}
 
 -- ---- the report
 
@@ -43,12 +44,79 @@ reported-earlier (a_verdict.NotPossible line) text old mid new held faults is = 
 reported-earlier (a_verdict.NoRecording line) text old mid new held faults is = got-earlier text old mid new held faults is
 reported-earlier (a_verdict.NoSetting line error) text old mid new held faults is = got-earlier text old mid new held faults is
 
+-- ---- what stands behind the line
+
+-- of what is found before the end
+behind-blamed : (bytes : List ℕ) (verdict : Verdict) (blame : Option Blame) (behind : List ℕ) → IsBlamed bytes verdict blame → MayFollow verdict behind
+    → IsBehind bytes verdict behind
+behind-blamed bytes a_verdict.Empty blame behind is may = absurd is
+behind-blamed bytes a_verdict.NoCalls blame behind is may = absurd is
+behind-blamed bytes (a_verdict.Possible calls) blame behind is may = absurd is
+behind-blamed bytes (a_verdict.NotPossible line) blame behind is may = may
+behind-blamed bytes (a_verdict.NoRecording line) blame behind is may = may
+behind-blamed bytes (a_verdict.NoSetting line error) blame behind is may = may
+
+pub told-found : (bytes : List ℕ) (finding : Finding) (text : List ℕ) → IsFound bytes finding
+    → (behind : List ℕ) × MayFollow finding.verdict behind × (text ≡ verdict_text finding.verdict ++ behind) → HasTold bytes finding.verdict text
+told-found bytes finding text is told =
+    record { behind = told.0; text_is = told.2; is = behind-blamed bytes finding.verdict finding.blame told.0 is.1 told.1 }
+
+-- nothing stands behind another verdict's line
+pub nothing-follows : (verdict : Verdict) → MayFollow verdict []
+nothing-follows a_verdict.Empty = refl
+nothing-follows a_verdict.NoCalls = refl
+nothing-follows (a_verdict.Possible calls) = refl
+nothing-follows (a_verdict.NotPossible line) = tt
+nothing-follows (a_verdict.NoRecording line) = refl
+nothing-follows (a_verdict.NoSetting line error) = refl
+
+pub nothing-behind : (bytes : List ℕ) (verdict : Verdict) → ((calls : ℕ) → verdict ≡ a_verdict.Possible calls → ⊥) → IsBehind bytes verdict []
+nothing-behind bytes a_verdict.Empty other = refl
+nothing-behind bytes a_verdict.NoCalls other = refl
+nothing-behind bytes (a_verdict.Possible calls) other = absurd (other calls refl)
+nothing-behind bytes (a_verdict.NotPossible line) other = tt
+nothing-behind bytes (a_verdict.NoRecording line) other = refl
+nothing-behind bytes (a_verdict.NoSetting line error) other = refl
+
+pub told-alone : (bytes : List ℕ) (verdict : Verdict) (text : List ℕ) → IsBehind bytes verdict [] → text ≡ verdict_text verdict → HasTold bytes verdict text
+told-alone bytes verdict text is text_is = record { behind = []; text_is = text_is ∙ sym (append-nil (verdict_text verdict)); is = is }
+
+-- the hints behind that of a possible recording
+pub told-hints : (bytes : List ℕ) (verdict : Verdict) (calls : ℕ) (line text : List ℕ) → verdict ≡ a_verdict.Possible calls → line ≡ verdict_text verdict
+    → IsVerdict bytes verdict → (IsVerdict bytes (a_verdict.Possible calls) → (hints : List ℕ) × AreHints bytes hints × (text ≡ line ++ hints)) → HasTold bytes verdict text
+told-hints bytes verdict calls line text possible line_is is told =
+    let put = told (subst (IsVerdict bytes) possible is) in
+    record {
+      behind = put.0;
+      text_is = put.2 ∙ ap (λ (l : List ℕ). l ++ put.0) line_is;
+      is = subst (λ v. IsBehind bytes v put.0) (sym possible) put.1;
+    }
+
+-- ---- what is told of a file
+
+pub told-on : (checked : Checked) (found : Option Finding) (finding : Finding) (answer : Result Told Failure) → found ≡ Some finding
+    → IfOk answer (λ report. report.verdict ≡ finding.verdict)
+    → IfOk answer (λ report. (behind : List ℕ) × MayFollow finding.verdict behind × (report.text.items ≡ verdict_text finding.verdict ++ behind))
+    → IfOk answer (λ report. (bytes : List ℕ) → Settles checked bytes found → HasTold bytes report.verdict report.text.items)
+told-on checked found finding (Ok report) is verdict text = λ bytes settles.
+    subst (λ v. HasTold bytes v report.text.items) (sym verdict) (told-found bytes finding report.text.items (subst (Settles checked bytes) is settles) text)
+told-on checked found finding (Err failure) is verdict text = tt
+
+pub told-at-end : (checked : Checked) (found : Option Finding) (verdict : Verdict) (answer : Result Told Failure) → found ≡ None
+    → ((bytes : List ℕ) → StandsFor checked bytes → IsVerdict bytes verdict) → IfOk answer (λ report. report.verdict ≡ verdict)
+    → IfOk answer (λ report. (bytes : List ℕ) → StandsFor checked bytes → IsVerdict bytes verdict → HasTold bytes verdict report.text.items)
+    → IfOk answer (λ report. (bytes : List ℕ) → Settles checked bytes found → HasTold bytes report.verdict report.text.items)
+told-at-end checked found verdict (Ok report) none is same text = λ bytes settles.
+    let stands : StandsFor checked bytes = subst (Settles checked bytes) none settles in
+    subst (λ v. HasTold bytes v report.text.items) (sym same) (text bytes stands (is bytes stands))
+told-at-end checked found verdict (Err failure) none is same text = tt
+
 -- ---- a verdict
 
 pub judged-of : (file : Option Text) (old new : Moment) (name : Text) (checked : Checked) (found : Option Finding) (answer : Result Told Failure) → file ≡ Some name
     → IsTold (new.asked (Input 0)) name → HasBytes old new checked found
     → IfOk answer (λ report. (bytes : List ℕ) → Settles checked bytes found → IsVerdict bytes report.verdict)
-    → IfOk answer (λ report. (behind : List ℕ) × (report.text.items ≡ verdict_text report.verdict ++ behind))
+    → IfOk answer (λ report. (bytes : List ℕ) → Settles checked bytes found → HasTold bytes report.verdict report.text.items)
     → IfOk answer (λ report. HasJudged file old new report.verdict report.text.items)
 judged-of file old new name checked found (Ok report) is asked read verdict text = record {
   name = name;
@@ -57,8 +125,7 @@ judged-of file old new name checked found (Ok report) is asked read verdict text
   bytes = read.bytes;
   told = read.told;
   verdict_is = verdict read.bytes read.settles;
-  behind = text.0;
-  text_is = text.1;
+  has_told = text read.bytes read.settles;
   held = read.held;
   faults = read.faults;
 }
@@ -75,11 +142,11 @@ judged-answer file old mid new verdict text (Judged told) judged comes asked cou
   ends =
       subst (λ v. Ends old new (Judged v)) (sym comes.0) (
         judged.bytes,
-        judged.behind,
+        text,
         judged.told,
         judged.verdict_is,
-        reported-earlier verdict (verdict_text verdict ++ judged.behind) old mid new judged.held (judged.faults Write Report)
-            (subst (λ t. IsReported verdict t mid new) judged.text_is comes.1),
+        judged.has_told,
+        reported-earlier verdict text old mid new judged.held (judged.faults Write Report) comes.1,
       );
   asked = λ name is.
       subst (IsTold (new.asked (Input 0))) (same-name file judged.name name judged.file_is is) (subst (λ a. IsTold a judged.name) (sym (asked (Input 0))) judged.asked);
@@ -98,13 +165,12 @@ judged-answer file old mid new verdict text (Failed Unwritten) judged comes aske
       unsaid = λ none. cc (sym judged.file_is ∙ none);
       ends = (
         judged.bytes,
-        judged.behind,
+        text,
         calls,
         judged.told,
         subst (IsVerdict judged.bytes) is judged.verdict_is,
-        subst (λ v. GrowsByPart (old.held Report) (new.held Report) (verdict_text v ++ judged.behind)) is
-            (subst (λ h. GrowsByPart h (new.held Report) (verdict_text verdict ++ judged.behind)) judged.held
-            (subst (GrowsByPart (mid.held Report) (new.held Report)) judged.text_is comes.2)),
+        subst (λ v. HasTold judged.bytes v text) is judged.has_told,
+        subst (λ h. GrowsByPart h (new.held Report) text) judged.held comes.2,
       );
       asked = λ name is.
           subst (IsTold (new.asked (Input 0))) (same-name file judged.name name judged.file_is is) (subst (λ a. IsTold a judged.name) (sym (asked (Input 0))) judged.asked);

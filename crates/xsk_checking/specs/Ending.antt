@@ -10,7 +10,7 @@ use Rattle.xsk_side.specs.declared.setting.SettingError.TheVariants.{Frames, Chu
 use Rattle.xsk_recording.specs.Verdict.{IsVerdict}
 use Rattle.xsk_recording.specs.declared.verdict.Verdict.{Verdict}
 use Rattle.xsk_recording.specs.declared.verdict.Verdict.TheVariants as a_verdict
-use Rattle.xsk_check.specs.Checking.{Checked, StandsFor, IsFound}
+use Rattle.xsk_check.specs.Checking.{Checked, StandsFor, IsFound, AreHints}
 use Rattle.xsk_check.specs.declared.finding.Finding.{Finding}
 use Rattle.xsk_io.specs.Bay.{Grows, GrowsByPart, Moment, Rose, Same}
 use Rattle.xsk_io.specs.declared.bay.Kind.{Kind}
@@ -74,6 +74,27 @@ line_of Unread = codes "read fault 0\n"
 line_of Unwritten = []
 line_of OutOfMemory = codes "out of memory\n"
 
+-- ---- what is told behind the line of a verdict
+
+-- of a possible recording the hints, and nothing more; of a call that can't be why it can't, which isn't said here; else nothing
+abbrev pub IsBehind : List ℕ → Verdict → List ℕ → Type 0
+IsBehind bytes a_verdict.Empty behind = behind ≡ []
+IsBehind bytes a_verdict.NoCalls behind = behind ≡ []
+IsBehind bytes (a_verdict.Possible calls) behind = AreHints bytes behind
+IsBehind bytes (a_verdict.NotPossible line) behind = Unit {0}
+IsBehind bytes (a_verdict.NoRecording line) behind = behind ≡ []
+IsBehind bytes (a_verdict.NoSetting line error) behind = behind ≡ []
+
+pub record HasTold (bytes : List ℕ) (verdict : Verdict) (text : List ℕ) : Type 0 where
+  pub behind : List ℕ
+  pub text_is : text ≡ verdict_text verdict ++ behind
+  pub is : IsBehind bytes verdict behind
+
+-- where it is told before the end
+abbrev pub MayFollow : Verdict → List ℕ → Type 0
+MayFollow (a_verdict.NotPossible line) behind = Unit {0}
+MayFollow verdict behind = behind ≡ []
+
 -- ---- the file
 
 -- what a bay tells, where it tells it
@@ -124,14 +145,14 @@ Comes verdict text old new (Failed failure) =
 
 -- ---- the end
 
--- The verdict is that of all bytes of the file, and the report got its line and more; or a failure is told. The bytes are those that
--- the bay tells, where it tells them.
+-- The verdict is that of all bytes of the file, and the report got its line and what stands behind it; or a failure is told. The bytes
+-- are those that the bay tells, where it tells them.
 abbrev pub Ends : Moment → Moment → End → Type 0
 Ends old new (Judged verdict) =
-    (bytes behind : List ℕ) × IsTold (old.left (Input 0)) bytes × IsVerdict bytes verdict × IsReported verdict (verdict_text verdict ++ behind) old new
+    (bytes text : List ℕ) × IsTold (old.left (Input 0)) bytes × IsVerdict bytes verdict × HasTold bytes verdict text × IsReported verdict text old new
 Ends old new (Failed Unwritten) =
-    (bytes behind : List ℕ) × (calls : ℕ) × IsTold (old.left (Input 0)) bytes × IsVerdict bytes (a_verdict.Possible calls)
-    × GrowsByPart (old.held Report) (new.held Report) (verdict_text (a_verdict.Possible calls) ++ behind)
+    (bytes text : List ℕ) × (calls : ℕ) × IsTold (old.left (Input 0)) bytes × IsVerdict bytes (a_verdict.Possible calls)
+    × HasTold bytes (a_verdict.Possible calls) text × GrowsByPart (old.held Report) (new.held Report) text
 Ends old new (Failed failure) = GotText (line_of failure) old new
 
 -- the failure that is told
@@ -159,8 +180,7 @@ pub record HasJudged (file : Option Text) (old new : Moment) (verdict : Verdict)
   pub bytes : List ℕ
   pub told : IsTold (old.left (Input 0)) bytes
   pub verdict_is : IsVerdict bytes verdict
-  pub behind : List ℕ
-  pub text_is : text ≡ verdict_text verdict ++ behind
+  pub has_told : HasTold bytes verdict text
   pub held : new.held Report ≡ old.held Report
   pub faults : (kind : Kind) → Same (old.faults kind) (new.faults kind)
 

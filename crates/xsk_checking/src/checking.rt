@@ -3,14 +3,15 @@ ghost use Rattle.std.specs.Prelude.{◌≡◌, ◌++◌, ◌∷◌, [], ℕ, Lis
 ghost use Rattle.xsk_args.specs.Words.{is_dashed};
 ghost use Rattle.xsk_io.specs.Bay.{CountsOnly, NoneOpen, Same};
 ghost use Rattle.xsk_io.specs.declared.bay.Kind.{Kind};
-ghost use Rattle.xsk_checking.specs.Ending.{file_in, is_check as are_check, verdict_text, Comes, HasFailed, HasJudged, IsAnswer, Settles};
+ghost use Rattle.xsk_check.specs.Checking.{IsReady, StandsFor};
+ghost use Rattle.xsk_checking.specs.Ending.{file_in, is_check as are_check, verdict_text, Comes, HasFailed, HasJudged, HasTold, IsAnswer, MayFollow, Settles};
 ghost use Rattle.xsk_recording.specs.Verdict.{IsVerdict};
 
 use crate::end::{End, Failure};
 use crate::reading::judge_file;
-use crate::told::told_text;
+use crate::told::{ended_text, found_text};
 use std::alloc::Global;
-use xsk_check::{Blame, Check, Finding, named_line};
+use xsk_check::{Check, Finding, named_line};
 use xsk_io::{Bay, Stream, write_whole};
 use xsk_recording::Verdict;
 
@@ -43,7 +44,7 @@ pub fn is_check(words: &[String]) -> bool
 ///
 /// `check FILE` reads the recording in a file, in pieces and as far as its verdict needs, and tells the verdict in a line to the report:
 /// `possible N`, `not possible L`, `no recording L`, `no setting L WHAT`, `no calls` or `empty`. Where a call isn't possible its line
-/// and the reason follow. A failure is told in its line, as those of the other commands.
+/// and the reason follow; where all are, the hints (`xsk_hints`). A failure is told in its line, as those of the other commands.
 pub fn run_check<B: Bay>(alloc: Global, words: &[String], bay: &mut B) -> Checkup
     requires { NoneOpen (B.moment bay.old) }
     ensures { IsAnswer (file_in (map string_bytes words.now)) (B.moment bay.old) (B.moment bay.new) result.end }
@@ -116,28 +117,25 @@ fn begins_with_dash(word: &str) -> bool
 
 /// What is told of a file that was read to its end, or as far as its verdict needs.
 fn report_of(alloc: Global, check: &Check, found: Option<Finding>) -> Result<Report, Failure>
+    requires { (bytes : List ℕ) × Settles check.now bytes found }
     ensures verdict { IfOk result (λ report. (bytes : List ℕ) → Settles check.now bytes found → IsVerdict bytes report.verdict) }
-    ensures text { IfOk result (λ report. (behind : List ℕ) × (report.text.items ≡ verdict_text report.verdict ++ behind)) }
+    ensures text { IfOk result (λ report. (bytes : List ℕ) → Settles check.now bytes found → HasTold bytes report.verdict report.text.items) }
     ensures failed { IfErr result (λ failure. failure ≡ Failure.OutOfMemory) }
 {
     match found {
-        Some(Finding { verdict, blame }) => report_on(alloc, check, verdict, blame),
-        None => report_on(alloc, check, check.verdict(), None),
+        Some(finding) => report_on(alloc, check, finding),
+        None => report_at_end(alloc, check, check.verdict()),
     }
 }
 
-/// What is told of a verdict.
-fn report_on(
-    alloc: Global,
-    check: &Check,
-    verdict: Verdict,
-    blame: Option<Blame>,
-) -> Result<Report, Failure>
-    ensures verdict { IfOk result (λ report. report.verdict ≡ verdict) }
-    ensures text { IfOk result (λ report. (behind : List ℕ) × (report.text.items ≡ verdict_text verdict ++ behind)) }
+/// What is told of a verdict that is found before the end.
+fn report_on(alloc: Global, check: &Check, finding: Finding) -> Result<Report, Failure>
+    ensures verdict { IfOk result (λ report. report.verdict ≡ finding.verdict) }
+    ensures text { IfOk result (λ report. (behind : List ℕ) × MayFollow finding.verdict behind × (report.text.items ≡ verdict_text finding.verdict ++ behind)) }
     ensures failed { IfErr result (λ failure. failure ≡ Failure.OutOfMemory) }
 {
-    let text = told_text(alloc, check, verdict, blame.as_ref())?;
+    let Finding { verdict, blame } = finding;
+    let text = found_text(alloc, check, verdict, blame.as_ref())?;
     let named = match (verdict, &blame) {
         (Verdict::NotPossible { line }, Some(blame)) => named_line(line, blame.why),
         _ => None,
@@ -146,5 +144,19 @@ fn report_on(
         verdict,
         text,
         named,
+    })
+}
+
+/// What is told of the verdict at the end.
+fn report_at_end(alloc: Global, check: &Check, verdict: Verdict) -> Result<Report, Failure>
+    requires { IsReady check.now }
+    ensures verdict { IfOk result (λ report. report.verdict ≡ verdict) }
+    ensures text { IfOk result (λ report. (bytes : List ℕ) → StandsFor check.now bytes → IsVerdict bytes verdict → HasTold bytes verdict report.text.items) }
+    ensures failed { IfErr result (λ failure. failure ≡ Failure.OutOfMemory) }
+{
+    Ok(Report {
+        verdict,
+        text: ended_text(alloc, check, verdict)?,
+        named: None,
     })
 }

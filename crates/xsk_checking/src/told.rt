@@ -1,6 +1,8 @@
-//! What a check tells of a recording: its verdict in a line, and behind it why a call isn't possible.
-ghost use Rattle.std.specs.Prelude.{◌≡◌, ◌++◌, ℕ, List, IfOk};
-ghost use Rattle.xsk_checking.specs.Ending.{fault_text, verdict_text};
+//! What a check tells of a recording: its verdict in a line, and behind it the hints, or why a call isn't possible.
+ghost use Rattle.std.specs.Prelude.{◌≡◌, ◌++◌, ℕ, List, IfErr, IfOk};
+ghost use Rattle.xsk_check.specs.Checking.{IsReady, StandsFor};
+ghost use Rattle.xsk_checking.specs.Ending.{fault_text, verdict_text, HasTold, MayFollow};
+ghost use Rattle.xsk_recording.specs.Verdict.{IsVerdict};
 
 use crate::end::Failure;
 use std::alloc::{AllocError, Global};
@@ -9,18 +11,32 @@ use xsk_check::{Blame, Check, reason_text};
 use xsk_recording::Verdict;
 use xsk_side::SettingError;
 
-/// The line of a verdict, and what is told behind it.
-pub(crate) fn told_text(
+/// The line of a verdict that is found before the end, and why a call isn't possible.
+pub(crate) fn found_text(
     alloc: Global,
     check: &Check,
     verdict: Verdict,
     blame: Option<&Blame>,
 ) -> Result<Vec<u8>, AllocError>
-    ensures { IfOk result (λ text. (behind : List ℕ) × (text.items ≡ verdict_text verdict ++ behind)) }
+    ensures { IfOk result (λ text. (behind : List ℕ) × MayFollow verdict behind × (text.items ≡ verdict_text verdict ++ behind)) }
 {
     let mut text = verdict_line(alloc, verdict)?;
     let behind = behind_text(alloc, check, verdict, blame)?;
     text.extend_from_slice(behind.as_slice())?;
+    Ok(text)
+}
+
+/// The line of a verdict at the end, and the hints on a recording that is possible.
+pub(crate) fn ended_text(alloc: Global, check: &Check, verdict: Verdict) -> Result<Vec<u8>, Failure>
+    requires { IsReady check.now }
+    ensures told { IfOk result (λ text. (bytes : List ℕ) → StandsFor check.now bytes → IsVerdict bytes verdict → HasTold bytes verdict text.items) }
+    ensures failed { IfErr result (λ failure. failure ≡ Failure.OutOfMemory) }
+{
+    let mut text = verdict_line(alloc, verdict)?;
+    let Verdict::Possible { .. } = verdict else {
+        return Ok(text);
+    };
+    check.append_hints(&mut text)?;
     Ok(text)
 }
 
@@ -61,7 +77,9 @@ fn behind_text(
     check: &Check,
     verdict: Verdict,
     blame: Option<&Blame>,
-) -> Result<Vec<u8>, AllocError> {
+) -> Result<Vec<u8>, AllocError>
+    ensures { IfOk result (λ behind. MayFollow verdict behind.items) }
+{
     let mut behind = Vec::new(alloc);
     let Verdict::NotPossible { line } = verdict else {
         return Ok(behind);

@@ -24,6 +24,8 @@ use Rattle.xsk_model.specs.declared.call.Act.TheVariants.{Ended as IsEnd}
 use Rattle.xsk_log.proofs.Parts.{length-entries}
 use Rattle.xsk_plain.specs.Engine.{Engine}
 use Rattle.xsk_sim.specs.Server.{Seen, logged_seen}
+use Rattle.xsk_sim.specs.SoFar.{all_counters}
+use Rattle.xsk_turns.specs.declared.disposal.DriverCounters.{DriverCounters}
 use Rattle.xsk_log.specs.Log.{calls_of, entries_of, item_of}
 use Rattle.xsk_log.specs.declared.log.Log.{Log}
 use Rattle.xsk_machine.specs.Sent.{SentShown}
@@ -131,7 +133,7 @@ kept_as_many s f (x ∷ xs) n (suc m) is all each =
     let rest : length (flat_map f xs) ≡ m = kept_as_many s f xs (n + 1) m (omega (arith, is)) (omega (arith, all)) each.1 in
     length-append (f x) (flat_map f xs) ∙ omega (arith, one, rest)
 
-kept_by_pair : {A X : Type 0} (s : Setting) (f : A → List X) (g : ℕ → X) (xs : List A) (n m : ℕ) → m ≡ length s.config.pairs - n → length s.config.pairs ≤ n + length xs → EachFrom xs n (λ who x. AreKept s who (f x) (g who))
+pub kept_by_pair : {A X : Type 0} (s : Setting) (f : A → List X) (g : ℕ → X) (xs : List A) (n m : ℕ) → m ≡ length s.config.pairs - n → length s.config.pairs ≤ n + length xs → EachFrom xs n (λ who x. AreKept s who (f x) (g who))
     → flat_map f xs ≡ map g (range_with_len n m)
 unfolding EachFrom
 kept_by_pair s f g [] n zero is all each = refl
@@ -239,11 +241,11 @@ stalled_run s frames order round w object had going few still first =
       first = first;
     }
 
--- with the object on which it ran
-pub stalled_on : (s : Setting) (frames : List Frame) (order round : ℕ) (w : Workers) (object : Seen) → (had : HadRounds s frames order (round + 1) w object) → (HaveEnded w → ⊥)
-    → round ≤ 18446744073709551615 → StandStill s frames order 64 (round + 1) had.history → NeverStill s frames order round → HasStalledOn s frames order round object
+-- with the object on which it ran, and the counters of its drivers
+pub stalled_on : (s : Setting) (frames : List Frame) (order round : ℕ) (w : Workers) (object : Seen) (counters : List DriverCounters) → (had : HadRounds s frames order (round + 1) w object) → (HaveEnded w → ⊥)
+    → round ≤ 18446744073709551615 → StandStill s frames order 64 (round + 1) had.history → NeverStill s frames order round → counters ≡ all_counters s had.history → HasStalledOn s frames order round object counters
 unfolding stalled_run
-stalled_on s frames order round w object had going few still first = record { stalled = stalled_run s frames order round w object had going few still first; run = had.seated.run }
+stalled_on s frames order round w object counters had going few still first counted = record { stalled = stalled_run s frames order round w object had going few still first; run = had.seated.run; counted = counted }
 
 -- a run whose log was kept
 pub logged_ended : (s : Setting) (frames : List Frame) (order : ℕ) (engine : Engine) (sent : SentShown) (run : Shown) → HasEnded s frames order run → IsShownBy (logged_seen engine) sent run

@@ -15,3 +15,4 @@ pub mod Bounding
 pub mod InRounds
 pub mod Journaling
 pub mod Stretch
+pub mod SoFar

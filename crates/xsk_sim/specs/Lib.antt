@@ -12,3 +12,4 @@ pub mod Counts
 pub mod Journal
 pub mod Rooms
 pub mod Server
+pub mod SoFar

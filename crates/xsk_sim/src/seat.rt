@@ -60,6 +60,12 @@ impl<M: Machine> Seat<M> {
         self.ask.is_none()
     }
 
+    pub(crate) fn machine(&self) -> &M
+        ensures { result.now ≡ self.now.machine }
+    {
+        &self.machine
+    }
+
     pub(crate) fn into_machine(self) -> M
         ensures { result ≡ self.machine }
     {

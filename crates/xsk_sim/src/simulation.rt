@@ -19,12 +19,14 @@ ghost use Rattle.xsk_prog.specs.Chain.{AllObey, SamePrograms};
 ghost use Rattle.xsk_turns.specs.Workers.{Setting, AreGiven};
 ghost use Rattle.xsk_sim.specs.Runs.{HasEnded, NeverStill, HasEndedUnder, HasStalledUnder};
 ghost use Rattle.xsk_sim.specs.Left.{HasStalledOn, HasStalledOnUnder};
+ghost use Rattle.xsk_sim.specs.SoFar.{CounterVec, kept_counters};
 ghost use Rattle.xsk_sim.specs.Server.{logged_seen};
 ghost use Rattle.xsk_plain.specs.Engine.{Engine as AnEngine};
 ghost use Rattle.xsk_sim.specs.Stalls.{StandStill};
 ghost use Rattle.xsk_still.specs.Still.{HasAmpleRoom};
 ghost use Rattle.xsk_sim.specs.Seats.{AreSeated, AreReady, AreSet, HadRounds, HaveEnded, kept_lists, kept_figures};
 
+use crate::counters::counters_so_far;
 use crate::order::Order;
 use crate::rounds::Workers;
 use crate::seat::Seat;
@@ -33,7 +35,7 @@ use std::alloc::Global;
 use std::marker::Model;
 use std::vec::IntoIter;
 use thiserror::Error;
-use xsk_driver::{Driver, Wire};
+use xsk_driver::{Driver, DriverCounters, Wire};
 use xsk_log::{Lines, Log};
 use xsk_machine::{AnyWorker, Collected, Figures, Inputs, Sent, drivers_for, worker_of};
 use xsk_model::Config;
@@ -64,12 +66,26 @@ impl From<OutOfMemory> for SimError {
     }
 }
 
-/// Why a simulation gave no run, with the object on which it stalled, as all calls left it.
+/// Why a simulation gave no run, with the object on which it stalled, as all calls left it, and the counters of its drivers.
 #[derive(Drop)]
 pub enum Unended<S: Drop> {
-    /// As `SimError::Stalled` has it.
-    Stalled { round: u64, object: S },
+    /// As `SimError::Stalled` has it. The counters are those of each driver by its pair, 0 for sockets that its queue hasn't got.
+    Stalled {
+        round: u64,
+        object: S,
+        counters: Vec<DriverCounters>,
+    },
     /// Memory couldn't be had.
+    OutOfMemory,
+}
+
+/// Why there were no rounds to the end, with the counters of the drivers where they stalled.
+#[derive(Drop)]
+enum Stopped {
+    Stalled {
+        round: u64,
+        counters: Vec<DriverCounters>,
+    },
     OutOfMemory,
 }
 
@@ -188,7 +204,7 @@ pub fn simulate<F: Fn(&[u8], u32) -> Verdict>(
     }
 }
 
-/// The same run. Where it stalls, the object comes back as all calls left it, with its log.
+/// The same run. Where it stalls, the object comes back as all calls left it, with its log, and the counters of the drivers so far.
 #[allow(clippy::too_many_arguments)]
 pub fn simulate_with_object<F: Fn(&[u8], u32) -> Verdict>(
     alloc: Global,
@@ -209,9 +225,10 @@ pub fn simulate_with_object<F: Fn(&[u8], u32) -> Verdict>(
     ensures obeys { AllObey F.Fn chain.new }
     ensures pairs { IfOk result (λ run. run.pairs ≡ length config.pairs) }
     ensures ended { IfOk result (HasEndedUnder F.Fn chain.old chain.new wire manner config packets.now frames.items order) }
-    ensures stalled { (round : ℕ) (plain : AnEngine) → result ≡ Err (Unended.Stalled round plain)
-        → HasStalledOnUnder F.Fn chain.old chain.new wire manner config packets.now frames.items order round (logged_seen plain) }
-    ensures goes_on { HasAmpleRoom config → config.closing ≡ None → manner ≡ plain_manner → (round : ℕ) (plain : AnEngine) → result ≡ Err (Unended.Stalled round plain) → ⊥ }
+    ensures stalled { (round : ℕ) (plain : AnEngine) (counters : CounterVec) → result ≡ Err (Unended.Stalled round plain counters)
+        → HasStalledOnUnder F.Fn chain.old chain.new wire manner config packets.now frames.items order round (logged_seen plain) counters.items }
+    ensures goes_on { HasAmpleRoom config → config.closing ≡ None → manner ≡ plain_manner → (round : ℕ) (plain : AnEngine) (counters : CounterVec)
+        → result ≡ Err (Unended.Stalled round plain counters) → ⊥ }
 {
     let (plain, sent) = run_on::<F, Plain>(
         alloc, config, frames, packets, chain, wire, order, manner,
@@ -272,9 +289,10 @@ fn run_on<F: Fn(&[u8], u32) -> Verdict, S: Server + Drop>(
     ensures obeys { AllObey F.Fn chain.new }
     ensures pairs { IfOk result (λ ran. (length ran.1.lists ≡ length config.pairs) × ((S.seen ran.0).engine.config ≡ config)) }
     ensures ended { IfOk result (λ ran. (run : Shown) × HasEndedUnder F.Fn chain.old chain.new wire manner config packets.now frames.items order run × IsShownBy (S.seen ran.0) ran.1 run) }
-    ensures stalled { (round : ℕ) (object : S) → result ≡ Err (Unended.Stalled round object)
-        → HasStalledOnUnder F.Fn chain.old chain.new wire manner config packets.now frames.items order round (S.seen object) }
-    ensures goes_on { HasAmpleRoom config → config.closing ≡ None → manner ≡ plain_manner → (round : ℕ) (object : S) → result ≡ Err (Unended.Stalled round object) → ⊥ }
+    ensures stalled { (round : ℕ) (object : S) (counters : CounterVec) → result ≡ Err (Unended.Stalled round object counters)
+        → HasStalledOnUnder F.Fn chain.old chain.new wire manner config packets.now frames.items order round (S.seen object) counters.items }
+    ensures goes_on { HasAmpleRoom config → config.closing ≡ None → manner ≡ plain_manner → (round : ℕ) (object : S) (counters : CounterVec)
+        → result ≡ Err (Unended.Stalled round object counters) → ⊥ }
 {
     let Ok(shared) = config.copy(alloc) else {
         return Err(Unended::OutOfMemory);
@@ -342,19 +360,20 @@ fn run_workers<S: Server + Drop>(
     ensures ended { (s : Setting) → s.config ≡ config → IsRegular s.config → AreSet s workers.entry
         → classes ≡ classes_of s.config → wire ≡ s.wire → manner ≡ s.manner
         → IfOk result (λ ran. (run : Shown) × HasEnded s frames.items order.number run × IsShownBy (S.seen ran.0) ran.1 run) }
-    ensures stalled { (s : Setting) (round : ℕ) (object : S) → s.config ≡ config → AreSet s workers.entry
-        → result ≡ Err (Unended.Stalled round object) → HasStalledOn s frames.items order.number round (S.seen object) }
+    ensures stalled { (s : Setting) (round : ℕ) (object : S) (counters : CounterVec) → s.config ≡ config → AreSet s workers.entry → classes ≡ classes_of s.config
+        → result ≡ Err (Unended.Stalled round object counters) → HasStalledOn s frames.items order.number round (S.seen object) counters.items }
 {
     let Ok(mut server) = S::open(alloc, config, frames) else {
         return Err(Unended::OutOfMemory);
     };
     match run_to_end(alloc, workers, &mut server, classes, wire, manner, order) {
         Ok(sent) => Ok((server, sent)),
-        Err(SimError::Stalled { round }) => Err(Unended::Stalled {
+        Err(Stopped::Stalled { round, counters }) => Err(Unended::Stalled {
             round,
             object: server,
+            counters,
         }),
-        Err(SimError::OutOfMemory) => Err(Unended::OutOfMemory),
+        Err(Stopped::OutOfMemory) => Err(Unended::OutOfMemory),
     }
 }
 
@@ -367,7 +386,7 @@ fn run_to_end<S: Server>(
     wire: Wire,
     manner: Manner,
     order: Order,
-) -> Result<Sent, SimError>
+) -> Result<Sent, Stopped>
     requires geometry { IsGeometry (S.seen server.old).engine.config.geometry }
     requires ready { AreReady workers (S.seen server.old) }
     ensures lists { (s : Setting) (frames : List Frame) → AreSeated s frames [] workers.entry (S.seen server.old)
@@ -375,16 +394,32 @@ fn run_to_end<S: Server>(
     ensures ended { (s : Setting) (frames : List Frame) → IsRegular s.config → AreSeated s frames [] workers.entry (S.seen server.old)
         → classes ≡ classes_of s.config → wire ≡ s.wire → manner ≡ s.manner
         → IfOk result (λ sent. (run : Shown) × HasEnded s frames order.number run × IsShownBy (S.seen server.new) sent run) }
-    ensures stalled { (s : Setting) (frames : List Frame) (round : ℕ) → AreSeated s frames [] workers.entry (S.seen server.old)
-        → result ≡ Err (SimError.Stalled round) → HasStalledOn s frames order.number round (S.seen server.new) }
+    ensures stalled { (s : Setting) (frames : List Frame) (round : ℕ) (counters : CounterVec) → AreSeated s frames [] workers.entry (S.seen server.old) → classes ≡ classes_of s.config
+        → result ≡ Err (Stopped.Stalled round counters) → HasStalledOn s frames order.number round (S.seen server.new) counters.items }
 {
     let mut workers = workers;
-    make_rounds(&mut workers, server, order)?;
+    if let Err(error) = make_rounds(&mut workers, server, order) {
+        return Err(why_stopped(alloc, error, &workers, classes));
+    }
     let calls = server.calls();
     let Ok(kept) = collect(alloc, workers, classes) else {
-        return Err(SimError::OutOfMemory);
+        return Err(Stopped::OutOfMemory);
     };
     Ok(kept.into_sent(calls, wire, manner.mangle.is_some()))
+}
+
+/// Why there were no rounds to the end, with the counters of the drivers, each of whose queues has so many sockets.
+fn why_stopped(alloc: Global, error: SimError, workers: &Workers<'_>, classes: u32) -> Stopped
+    ensures { (round : ℕ) (counters : CounterVec) → result ≡ Stopped.Stalled round counters
+        → (error ≡ SimError.Stalled round) × (counters.items ≡ kept_counters classes workers.now) }
+{
+    match error {
+        SimError::Stalled { round } => match counters_so_far(alloc, workers, classes) {
+            Ok(counters) => Stopped::Stalled { round, counters },
+            Err(OutOfMemory) => Stopped::OutOfMemory,
+        },
+        SimError::OutOfMemory => Stopped::OutOfMemory,
+    }
 }
 
 /// Makes rounds until all workers have ended, or nothing has changed for too long.

@@ -32,8 +32,8 @@ pub(crate) fn run_alone<R: Wait, W: Rests, G: Gate>(
             Pace::Ended => break,
             Pace::Moved => waiting.end(),
             Pace::Put(count) => waiting.end_with(count),
-            Pace::Waited => waiting.wait(),
-            Pace::Parked => worker.rest(rt, waiting.backoff()),
+            Pace::Waited => waiting.wait(rt),
+            Pace::Parked => worker.rest(rt, waiting.pauses()),
         }
     }
     worker

@@ -7,8 +7,8 @@ ghost use Rattle.xsk_workers.specs.Visits.{CameOf, Has, WereVisited, WereBothVis
 
 use crate::came::Came;
 use crate::parking::SideWakers;
+use crate::pauses::Pauses;
 use crate::works::Works;
-use crossbeam_utils::Backoff;
 use std::sync::Wait;
 use xsk_gate::Gate;
 use xsk_lock::{Hand, Lock};
@@ -72,11 +72,11 @@ fn take<T: Works, R: Wait>(rt: &R, lock: &Lock<T>, hand: &mut Hand<T>) -> T
     ensures mine { mine hand.new.view ≡ mine hand.old.view }
     ensures name { T.name result ≡ lock.now.name }
 {
-    let backoff = Backoff::new();
+    let mut pauses = Pauses::shared();
     for _ in rt.forever() {
         match lock.try_lock(hand) {
             Some(ends) => return ends,
-            None => backoff.snooze(),
+            None => pauses.pause(rt),
         }
     }
     unreachable!()
@@ -234,7 +234,7 @@ fn turn<T: Works, R: Wait>(
     }
 }
 
-/// Runs a hand to its end. It backs off behind a turn that moved nothing, also where it found a ring full.
+/// Runs a hand to its end. It pauses behind a turn that moved nothing, also where it found a ring full.
 pub(crate) fn run<T: Works, R: Wait, G: Gate>(
     rt: &R,
     shared: &Shared,
@@ -252,7 +252,7 @@ pub(crate) fn run<T: Works, R: Wait, G: Gate>(
 {
     let mut hand = hand;
     let number = share.base.saturating_add(share.hand);
-    let backoff = Backoff::new();
+    let mut pauses = Pauses::shared();
     let mut told = false;
     let mut count = 0u64;
     for _ in rt.forever() {
@@ -262,17 +262,17 @@ pub(crate) fn run<T: Works, R: Wait, G: Gate>(
             HandTurn::Over => return hand,
             HandTurn::GoesOn { told: now, came } => {
                 told = now;
-                rest_behind(came, &backoff);
+                rest_behind(rt, came, &mut pauses);
             }
         }
     }
     unreachable!()
 }
 
-/// Backs off where nothing moved, and begins anew where something did.
-fn rest_behind(came: Came, backoff: &Backoff) {
+/// Pauses where nothing moved, and begins anew where something did.
+fn rest_behind<R: Wait>(rt: &R, came: Came, pauses: &mut Pauses) {
     match came {
-        Came::Moved => backoff.reset(),
-        Came::Full | Came::Idle => backoff.snooze(),
+        Came::Moved => pauses.reset(),
+        Came::Full | Came::Idle => pauses.pause(rt),
     }
 }

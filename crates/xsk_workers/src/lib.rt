@@ -13,6 +13,7 @@ mod pairs;
 mod parking;
 mod passing;
 mod patience;
+mod pauses;
 mod plan;
 mod runner;
 mod running;

@@ -1,11 +1,12 @@
 //! How long a worker waits behind a turn that moved nothing.
 
-use crossbeam_utils::Backoff;
+use crate::pauses::{Pauses, spin};
+use std::sync::Wait;
+use std::thread;
 use std::thread::Threads;
-use std::{hint, thread};
 use xsk_table::Shared;
 
-/// How often a patient application spins: some 4 microseconds, and up to 20 on a processor that pauses for longer.
+/// How often a patient application spins before a pause: some 4 microseconds, and up to 20 on a processor that pauses for longer.
 const SPINS: u32 = 512;
 
 /// How many frames of a queue it doesn't spin for behind a Submit of few items, those of one batch, and how often it spins for
@@ -18,11 +19,11 @@ const SPINS_PER_FRAME: u32 = 4;
 /// from the processors of the drivers less often.
 #[derive(Clone, Copy)]
 pub(crate) enum Patience {
-    /// It backs off.
-    Short,
-    /// It yields, and backs off.
+    /// Behind three such turns it pauses: where each worker has a processor for longer than where they share them.
+    Short { has_own: bool },
+    /// It pauses as who shares a processor.
     Yielding,
-    /// It spins, yields, and backs off; and behind a Submit of fewer items than a batch may have it spins so often.
+    /// It spins and pauses; and behind a Submit of fewer items than a batch may have it spins so often.
     Long { batch: u32, behind_few: u32 },
 }
 
@@ -31,16 +32,17 @@ impl Patience {
     /// processor.
     pub(crate) fn of_caller<R: Threads>(rt: &R, shared: &Shared, caller: u32) -> Patience {
         let config = shared.config();
-        if (caller as usize) < config.pairs().len() {
-            return Patience::Short;
+        let count = processors(rt);
+        let has_own = count >= config.callers() as usize;
+        if (caller as usize) < config.pairs().len() || count == 1 {
+            return Patience::Short { has_own };
         }
-        match processors(rt) {
-            1 => Patience::Short,
-            count if count < config.callers() as usize => Patience::Yielding,
-            _ => Patience::Long {
-                batch: config.batch(),
-                behind_few: spins_behind_few(config.pool()),
-            },
+        if !has_own {
+            return Patience::Yielding;
+        }
+        Patience::Long {
+            batch: config.batch(),
+            behind_few: spins_behind_few(config.pool()),
         }
     }
 
@@ -48,22 +50,26 @@ impl Patience {
     /// of FILL and TX come between the calls by which it moves packets.
     fn turns(self) -> u32 {
         match self {
-            Patience::Short => 3,
+            Patience::Short { .. } => 3,
             Patience::Yielding | Patience::Long { .. } => 1,
         }
     }
 
-    /// Waits.
-    fn wait(self, backoff: &Backoff) {
+    /// The pauses that it makes.
+    fn pauses(self) -> Pauses {
         match self {
-            Patience::Short => {}
-            Patience::Yielding => thread::yield_now(),
-            Patience::Long { .. } => {
-                spin(SPINS);
-                thread::yield_now();
-            }
+            Patience::Short { has_own: true } => Pauses::long(),
+            Patience::Long { .. } => Pauses::between(),
+            Patience::Short { has_own: false } | Patience::Yielding => Pauses::shared(),
         }
-        backoff.snooze();
+    }
+
+    /// Waits.
+    fn wait<R: Wait>(self, rt: &R, pauses: &mut Pauses) {
+        if let Patience::Long { .. } = self {
+            spin(SPINS);
+        }
+        pauses.pause(rt);
     }
 
     /// Waits behind a Submit of so many items.
@@ -79,7 +85,7 @@ impl Patience {
 #[derive(Drop)]
 pub(crate) struct Waiting {
     patience: Patience,
-    backoff: Backoff,
+    pauses: Pauses,
     /// How many turns in a row moved nothing since it waited last.
     idle: u32,
 }
@@ -89,24 +95,24 @@ impl Waiting {
     pub(crate) fn new(patience: Patience) -> Waiting {
         Waiting {
             patience,
-            backoff: Backoff::new(),
+            pauses: patience.pauses(),
             idle: 0,
         }
     }
 
     /// Waits behind a turn that moved nothing, where there were enough of them.
-    pub(crate) fn wait(&mut self) {
+    pub(crate) fn wait<R: Wait>(&mut self, rt: &R) {
         self.idle = self.idle.saturating_add(1);
         if self.idle >= self.patience.turns() {
             self.idle = 0;
-            self.patience.wait(&self.backoff);
+            self.patience.wait(rt, &mut self.pauses);
         }
     }
 
     /// Begins anew behind a turn that moved something.
     pub(crate) fn end(&mut self) {
         self.idle = 0;
-        self.backoff.reset();
+        self.pauses.reset();
     }
 
     /// Begins anew behind a Submit of so many items, and waits where they are few.
@@ -116,9 +122,9 @@ impl Waiting {
         self.patience.wait_behind(count);
     }
 
-    /// How far it has backed off.
-    pub(crate) fn backoff(&self) -> &Backoff {
-        &self.backoff
+    /// The pauses of a worker that is parked.
+    pub(crate) fn pauses(&mut self) -> &mut Pauses {
+        &mut self.pauses
     }
 }
 
@@ -136,10 +142,4 @@ fn spins_behind_few(pool: u32) -> u32 {
     pool.saturating_sub(HELD_FRAMES)
         .saturating_mul(SPINS_PER_FRAME)
         .min(SPINS)
-}
-
-fn spin(times: u32) {
-    for _ in 0..times {
-        hint::spin_loop();
-    }
 }

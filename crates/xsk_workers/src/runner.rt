@@ -14,9 +14,9 @@ use crate::pace::Pace;
 use crate::parking::SideWakers;
 use crate::passing::Passed;
 use crate::patience::Patience;
+use crate::pauses::Pauses;
 use crate::plan::HandsPlan;
 use crate::works::Works;
-use crossbeam_utils::Backoff;
 use std::sync::Wait;
 use xsk_gate::Gate;
 use xsk_machine::Collected;
@@ -52,8 +52,8 @@ pub(crate) trait Turns {
 
 /// The calls of one machine, or of the last of several hands, which may sleep.
 pub(crate) trait Rests: Turns {
-    /// Waits until it is kicked, where it is parked: it spins and yields for a few looks, and then sleeps.
-    fn rest<R: Wait>(&self, rt: &R, backoff: &Backoff)
+    /// Waits until it is kicked, where it is parked: it spins for a few looks, and then sleeps.
+    fn rest<R: Wait>(&self, rt: &R, pauses: &mut Pauses)
         requires { Self.is_asleep self.now };
 }
 

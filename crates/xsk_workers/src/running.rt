@@ -6,9 +6,9 @@ ghost use Rattle.xsk_workers.specs.declared.pace.Pace.TheVariants.{Ended};
 use crate::pace::Pace;
 use crate::passing::Passed;
 use crate::patience::Patience;
+use crate::pauses::Pauses;
 use crate::runner::{Opens, Turns};
 use crate::teams::share_ends;
-use crossbeam_utils::Backoff;
 use std::snapshot::Snapshot;
 use std::sync::Wait;
 use std::sync::atomic::{AtomicU64, Ordering};
@@ -94,8 +94,8 @@ fn take_turns<W: Turns, G: Gate>(shared: &Shared, gate: &G, turn: u64, members: 
     together
 }
 
-/// Runs members to their ends, one turn after another, each behind the gate. It backs off while none of them moves anything, and doesn't
-/// sleep.
+/// Runs members to their ends, one turn after another, each behind the gate. It pauses while none of them moves anything, and sleeps
+/// for none that is parked.
 pub(crate) fn finish<R: Wait, W: Turns, G: Gate>(
     rt: &R,
     shared: &Shared,
@@ -108,15 +108,15 @@ pub(crate) fn finish<R: Wait, W: Turns, G: Gate>(
     ensures belong { All (λ w. IsSeatOn shared.now (W.seat w)) members.new.items }
     ensures whole { All W.has_run members.new.items }
 {
-    let backoff = Backoff::new();
+    let mut pauses = Pauses::shared();
     let mut turn = 0u64;
     for _ in rt.forever() {
         let pace = take_turns(shared, gate, turn, members);
         turn = turn.saturating_add(1);
         match pace {
             Pace::Ended => break,
-            Pace::Moved | Pace::Put(_) => backoff.reset(),
-            Pace::Waited | Pace::Parked => backoff.snooze(),
+            Pace::Moved | Pace::Put(_) => pauses.reset(),
+            Pace::Waited | Pace::Parked => pauses.pause(rt),
         }
     }
 }

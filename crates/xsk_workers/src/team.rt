@@ -13,10 +13,10 @@ use crate::context::Context;
 use crate::pace::Pace;
 use crate::parking::SideWakers;
 use crate::passing::Passed;
+use crate::pauses::Pauses;
 use crate::plan::Rest;
 use crate::runner::{Leaves, Rests, Turns};
 use crate::works::Works;
-use crossbeam_utils::Backoff;
 use std::marker::Model;
 use std::sync::Wait;
 use xsk_machine::Collected;
@@ -131,9 +131,9 @@ impl<'a, P: Context> Turns for Team<'a, P> {
 }
 
 impl<'a, P: Context> Rests for Team<'a, P> {
-    /// It isn't parked, and only yields.
-    fn rest<R: Wait>(&self, _rt: &R, backoff: &Backoff) {
-        backoff.snooze();
+    /// It isn't parked, and only pauses.
+    fn rest<R: Wait>(&self, rt: &R, pauses: &mut Pauses) {
+        pauses.pause(rt);
     }
 }
 

@@ -16,8 +16,8 @@ ghost use Rattle.xsk_workers.specs.declared.pace.Pace.TheVariants.{Parked, Ended
 use crate::context::Context;
 use crate::pace::Pace;
 use crate::passing::Passed;
+use crate::pauses::Pauses;
 use crate::runner::{Leaves, Rests, Turns};
-use crossbeam_utils::Backoff;
 use crossbeam_utils::sync::{Parker, Unparker};
 use std::marker::Model;
 use std::sync::Wait;
@@ -143,13 +143,10 @@ impl<M: Machine + Drop, P: Context> Turns for Worker<M, P> {
 }
 
 impl<M: Machine + Drop, P: Context> Rests for Worker<M, P> {
-    fn rest<R: Wait>(&self, rt: &R, backoff: &Backoff) {
-        if let Some(parker) = &self.parker
-            && backoff.is_completed()
-        {
-            parker.park(rt);
-        } else {
-            backoff.snooze();
+    fn rest<R: Wait>(&self, rt: &R, pauses: &mut Pauses) {
+        match &self.parker {
+            Some(parker) if pauses.has_spun() => parker.park(rt),
+            _ => pauses.pause(rt),
         }
     }
 }

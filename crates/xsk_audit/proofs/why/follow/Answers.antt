@@ -31,7 +31,7 @@ loop-line-init c = record {
 pub returns-then-is_empty-clause-follows : goal.returns-then-is_empty-clause-follows
 returns-then-is_empty-clause-follows c =
     let l = c.loop-line.invariant in
-    all-legal c.args.checked.now.config c.loop-line.checked c.loop-line.shelf l.frames l.timed (lines_of c.args.text.now) (lines_of c.loop-line.rest.now) l.playing l.config l.rounds l.lines
+    all-legal c.loop-line.checked.config c.loop-line.checked c.loop-line.shelf l.frames l.timed (lines_of c.args.text.now) (lines_of c.loop-line.rest.now) l.playing refl l.rounds l.lines
     (no-lines c.loop-line.rest.now c.is_empty.result c.is_empty.ensures c.if-is_empty.true)
 
 pub follow_line-requires-clause-playing : goal.follow_line-requires-clause-playing
@@ -44,8 +44,8 @@ returns-in-Fails-clause-follows c =
     let l = c.loop-line.invariant in
     let line = c.in_ok-round.ensures in
     let goes = line.next l.frames (entries l.timed) l.playing l.calls in
-    stops-for c.args.checked.now.config c.loop-line.checked c.follow_line.new.checked c.loop-line.shelf l.frames l.timed (lines_of c.args.text.now) (lines_of c.loop-line.rest.now) (lines_of c.first_line.result.1.now)
-    c.loop-line.least c.loop-line.same c.first_line.result.0.now c.follow_line.new.right (descs_of c.follow_line.new.told) c.in-Fails.reason l.playing l.config (line.config ∙ l.config) l.rounds l.last l.count l.lines c.first_line.ensures.line
+    stops-for c.loop-line.checked c.follow_line.new.checked c.loop-line.shelf l.frames l.timed (lines_of c.args.text.now) (lines_of c.loop-line.rest.now) (lines_of c.first_line.result.1.now)
+    c.loop-line.least c.loop-line.same c.first_line.result.0.now c.follow_line.new.right (descs_of c.follow_line.new.told) c.in-Fails.reason l.playing (sym line.config) l.rounds l.last l.count l.lines c.first_line.ensures.line
     (stopped c.follow_line.new.checked c.follow_line.new.shelf l.frames (entries l.timed) c.loop-line.least c.first_line.result.0.now (descs_of c.follow_line.new.told) c.follow_line.new.right _ c.in-Fails.reason goes c.in-Fails.is)
 
 pub loop-line-preserved : goal.loop-line-preserved
@@ -78,5 +78,5 @@ loop-line-preserved c =
 pub returns-clause-follows : goal.returns-clause-follows
 returns-clause-follows c =
     let l = c.loop-line.invariant in
-    all-legal c.args.checked.now.config c.loop-line.checked c.loop-line.shelf l.frames l.timed (lines_of c.args.text.now) (lines_of c.loop-line.rest.now) l.playing l.config l.rounds l.lines
+    all-legal c.loop-line.checked.config c.loop-line.checked c.loop-line.shelf l.frames l.timed (lines_of c.args.text.now) (lines_of c.loop-line.rest.now) l.playing refl l.rounds l.lines
     (none-short c.loop-line.rest.now (omega (arith, l.short, c.loop-line-test.false, c.loop-line.auto._line-end)))

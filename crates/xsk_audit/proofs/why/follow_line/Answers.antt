@@ -12,7 +12,7 @@ use Rattle.xsk_audit.proofs.why.follow_line.Goals as goal
 pub returns-in_default-clause-next : goal.returns-in_default-clause-next
 returns-in_default-clause-next c frames h playing calls =
     let count = ap length c.pairs.ensures.value ∙ ap (λ (k : Config). length k.pairs) c.config.ensures in
-    ap (λ (n : ℕ). line_at n c.args.line.now) (sym count) ∙ sym c.in_default.ensures.said
+    (ap (λ (n : ℕ). line_at n c.args.line.now) (sym count) ∙ sym c.in_default.ensures.said, playing.run)
 
 pub try_call-requires-clause-told : goal.try_call-requires-clause-told
 try_call-requires-clause-told c =
@@ -25,11 +25,11 @@ returns-in-Some-2-clause-next c frames h playing calls =
     let said : Said = record { round = r.round; who = r.who; call = joined_call r.ask c.read_line.new.items } in
     let tried = c.in_ok-reason.ensures in
     let count = ap length c.pairs.ensures.value ∙ ap (λ (k : Config). length k.pairs) (c.config.ensures ∙ sym tried.config) in
-    barred c.try_call.new.checked.config frames h c.args.least c.args.line.now (descs_of c.read_line.new.items) c.args.right.now said c.in-Some-2.reason
+    let unmade = subst (λ (reason : Option Reason). Tries c.args.checked.now c.try_call.new.checked c.try_call.new.shelf frames h said.who said.call reason) c.in-Some-2.is (tried.tries frames h playing) in
+    barred c.try_call.new.checked frames h c.args.least c.args.line.now (descs_of c.read_line.new.items) c.args.right.now said c.in-Some-2.reason
     (ap (λ (n : ℕ). line_at n c.args.line.now) (sym count) ∙ sym c.in-Some.ensures.said)
     (ap descs_of (sym (submitted-joined r.ask c.read_line.new.items c.in-Some.ensures.items)))
-    (subst (λ (k : Config). IsUnmade k h said.who said.call c.in-Some-2.reason) (sym tried.config)
-    (subst (λ (reason : Option Reason). Tries c.args.checked.now c.try_call.new.checked c.try_call.new.shelf frames h said.who said.call reason) c.in-Some-2.is (tried.tries frames h playing)))
+    (subst (λ (k : Config). IsUnmade k h said.who said.call c.in-Some-2.reason) (sym tried.config) unmade.0) unmade.1
 
 pub returns-clause-next : goal.returns-clause-next
 returns-clause-next c frames h playing calls =

@@ -20,9 +20,11 @@ lend-requires-clause-places c =
 
 pub returns-then-not-lend-clause-tries : goal.returns-then-not-lend-clause-tries
 returns-then-not-lend-clause-tries c frames h playing =
-    let geometry = c.geometry.ensures.value ∙ ap (λ (k : Config). k.geometry) c.config.ensures in
-    lacking c.args.checked.now c.args.shelf.now frames h c.args.who c.args.ask c.args.told.now playing c.requires.asked
-    (subst (λ (g : Geometry). Lacks g c.args.shelf.now (descs_of c.args.told.now)) geometry (c.lend.ensures.lacks (search rules)))
+    let geometry = c.geometry.ensures.value ∙ ap (λ (k : Config). k.geometry) c.config.ensures in (
+      lacking c.args.checked.now c.args.shelf.now frames h c.args.who c.args.ask c.args.told.now playing c.requires.asked
+          (subst (λ (g : Geometry). Lacks g c.args.shelf.now (descs_of c.args.told.now)) geometry (c.lend.ensures.lacks (search rules))),
+      playing.run,
+    )
 
 pub joined-requires : goal.joined-requires
 joined-requires c =
@@ -36,10 +38,12 @@ why_refused-why-requires c legal =
 
 pub returns-then-not-permits-clause-tries : goal.returns-then-not-permits-clause-tries
 returns-then-not-permits-clause-tries c frames h playing =
-    let geometry = c.geometry.ensures.value ∙ ap (λ (k : Config). k.geometry) c.config.ensures in
-    refused c.args.checked.now c.args.shelf.now frames h c.args.who c.args.ask c.args.told.now playing c.requires.asked c.lend.new.self c.lend.new.items c.why_refused-why.result c.requires.told
-    (subst (λ (g : Geometry). IsLent g c.args.shelf.now c.lend.new.self (descs_of c.args.told.now) c.lend.new.items) geometry (c.lend.ensures.lent (search rules)))
-    (subst (λ (call : Call). Fails c.why_refused-why.result c.args.checked.now.config (own c.args.who c.args.checked.now.log) c.args.who call) c.joined.ensures c.why_refused-why.ensures)
+    let geometry = c.geometry.ensures.value ∙ ap (λ (k : Config). k.geometry) c.config.ensures in (
+      refused c.args.checked.now c.args.shelf.now frames h c.args.who c.args.ask c.args.told.now playing c.requires.asked c.lend.new.self c.lend.new.items c.why_refused-why.result c.requires.told
+          (subst (λ (g : Geometry). IsLent g c.args.shelf.now c.lend.new.self (descs_of c.args.told.now) c.lend.new.items) geometry (c.lend.ensures.lent (search rules)))
+          (subst (λ (call : Call). Fails c.why_refused-why.result c.args.checked.now.config (own c.args.who c.args.checked.now.log) c.args.who call) c.joined.ensures c.why_refused-why.ensures),
+      playing.run,
+    )
 
 pub serve-answer-requires-clause-items : goal.serve-answer-requires-clause-items
 serve-answer-requires-clause-items c =

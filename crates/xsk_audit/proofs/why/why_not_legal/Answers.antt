@@ -19,10 +19,10 @@ follow-requires-clause-opened c =
 
 pub returns-in_default-2 : goal.returns-in_default-2
 returns-in_default-2 c =
-    let config = c.in-Ok.ensures.config in
+    let config = c.in_ok-same.ensures.config ∙ c.in-Ok.ensures.config in
     let journal = lines_of c.pass_report-passed.result.1.now in
-    let follows = subst (FollowsUpTo c.in-Ok.checked.config journal (descs_of c.follow.new.told) c.follow.new.right) c.in_default-2.is c.in_ok-same.ensures.follows in
-    (subst (λ (d : Config). AreLegal d (journal_of (lines_of c.args.text.now))) config (subst (AreLegal c.in-Ok.checked.config) c.pass_report-passed.ensures.journal follows), refl)
+    let follows = subst (FollowsUpTo c.follow.new.checked journal (descs_of c.follow.new.told) c.follow.new.right) c.in_default-2.is c.in_ok-same.ensures.follows in
+    (subst (λ (d : Config). AreLegal d (journal_of (lines_of c.args.text.now))) config (subst (AreLegal c.follow.new.checked.config) c.pass_report-passed.ensures.journal follows), refl)
 
 pub returns : goal.returns
 returns c =
@@ -32,10 +32,13 @@ returns c =
     let descs = descs_of c.follow.new.told in
     let before = take (passed + same) (lines_of text) in
     let right = c.follow.new.right in
-    let config = c.in-Ok.ensures.config in
-    let geometry = c.geometry-2.ensures.value ∙ ap (λ (k : Config). k.geometry) (c.config-2.ensures ∙ c.in_ok-same.ensures.config ∙ config) in (
-      reason_text c.args.config.geometry before descs right c.in-Some.reason,
-      misfit c.args.config c.in-Ok.checked.config text passed same (lines_of c.pass_report-passed.result.1.now) descs right c.in-Some.reason c.pass_report-passed.ensures.report c.pass_report-passed.ensures.journal config
-          (subst (FollowsUpTo c.in-Ok.checked.config (lines_of c.pass_report-passed.result.1.now) descs right) c.in-Some.is c.in_ok-same.ensures.follows),
-      c.in_ok-push_reason.ensures ∙ ap (λ (t : List ℕ × Geometry). c.args.out.now.items ++ reason_text t.1 before descs t.0 c.in-Some.reason) (λ i. (c.bytes.ensures.value i, geometry i)),
+    let engine = c.follow.new.checked in
+    let geometry = c.geometry-2.ensures.value ∙ ap (λ (k : Config). k.geometry) c.config-2.ensures in (
+      c.in_ok-same.ensures.config ∙ c.in-Ok.ensures.config,
+      (
+        reason_text engine.config.geometry before descs right c.in-Some.reason,
+        misfit engine text passed same (lines_of c.pass_report-passed.result.1.now) descs right c.in-Some.reason c.pass_report-passed.ensures.report c.pass_report-passed.ensures.journal
+            (subst (FollowsUpTo engine (lines_of c.pass_report-passed.result.1.now) descs right) c.in-Some.is c.in_ok-same.ensures.follows),
+        c.in_ok-push_reason.ensures ∙ ap (λ (t : List ℕ × Geometry). c.args.out.now.items ++ reason_text t.1 before descs t.0 c.in-Some.reason) (λ i. (c.bytes.ensures.value i, geometry i)),
+      ),
     )

@@ -1,7 +1,5 @@
-use Rattle.std.proofs.Common.{sym, subst}
 use Rattle.xsk_io.specs.declared.bay.Kind.TheVariants.{Open}
 use Rattle.xsk_io.specs.declared.bay.Stream.TheVariants.{Input, Report}
-use Rattle.xsk_checking.specs.Ending.{IsTold}
 use Rattle.xsk_checking.proofs.Faults.{none-of-it}
 use Rattle.xsk_checking.proofs.Pieces.{opened-then, unopened}
 use Rattle.xsk_checking.proofs.reading.judge_file.Goals as goal

@@ -1,6 +1,6 @@
 use Rattle.std.proofs.Common.{arith, rules, ◌≡◌, ◌∙◌, sym, take}
 use Rattle.std.proofs.lemmas.Grind.{common_steps}
-use Rattle.xsk_checking.proofs.Pieces.{IsReadBy, begun-memory, none-begun, read-ended, read-failed, read-memory, read-on, read-settled}
+use Rattle.xsk_checking.proofs.Pieces.{begun-memory, none-begun, read-ended, read-failed, read-on, read-settled}
 use Rattle.xsk_checking.proofs.reading.judge_open.Goals as goal
 
 pub read-requires-clause-opened : goal.read-requires-clause-opened

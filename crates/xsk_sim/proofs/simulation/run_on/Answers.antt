@@ -7,6 +7,7 @@ use Rattle.xsk_driver.specs.Asking.{IsAnswer}
 use Rattle.xsk_machine.specs.Workers.{HasGiven, setting_by}
 use Rattle.xsk_sim.proofs.Verdicts.{if_ok}
 use Rattle.xsk_sim.specs.Left.{HasStalledOn}
+use Rattle.xsk_sim.specs.SoFar.{CounterVec}
 use Rattle.xsk_sim.specs.Runs.{HasEnded, HasEndedUnder}
 use Rattle.xsk_sim.specs.Shown.{Shown, IsShownBy}
 use Rattle.xsk_sim.proofs.Stretch.{none_stands_still}
@@ -45,23 +46,23 @@ returns-clause-ended g c =
     (c.run_workers.ensures.ended s c.in-Ok.ensures (subst IsRegular (sym c.in-Ok.ensures) c.requires.regular) set.3 c.classes.ensures refl refl))
 
 -- a run that has stalled
-stalls : (g : given.Over) (c : goal.After-drop-shared-inside-4 g) (round : ℕ) (object : g.row.S.Denot) → c.run_workers.result ≡ Err (Stalled round object)
-    → HasStalledOn (setting_by c.args.config c.args.wire c.args.manner c.args.packets.now c.in-Ok-all_workers.ensures.set.0) c.args.frames.items c.args.order round (g.S.Server.seen object)
-stalls g c round object is =
+stalls : (g : given.Over) (c : goal.After-drop-shared-inside-4 g) (round : ℕ) (object : g.row.S.Denot) (counters : CounterVec) → c.run_workers.result ≡ Err (Stalled round object counters)
+    → HasStalledOn (setting_by c.args.config c.args.wire c.args.manner c.args.packets.now c.in-Ok-all_workers.ensures.set.0) c.args.frames.items c.args.order round (g.S.Server.seen object) counters.items
+stalls g c round object counters is =
     let set = c.in-Ok-all_workers.ensures.set in
     let s : Setting = setting_by c.in-Ok.shared c.args.wire c.args.manner c.args.packets.now set.0 in
-    subst (λ (k : Config). HasStalledOn (setting_by k c.args.wire c.args.manner c.args.packets.now set.0) c.args.frames.items c.args.order round (g.S.Server.seen object)) c.in-Ok.ensures
-    (subst (λ (number : ℕ). HasStalledOn s c.args.frames.items number round (g.S.Server.seen object)) c.new.ensures (c.run_workers.ensures.stalled s round object c.in-Ok.ensures set.3 is))
+    subst (λ (k : Config). HasStalledOn (setting_by k c.args.wire c.args.manner c.args.packets.now set.0) c.args.frames.items c.args.order round (g.S.Server.seen object) counters.items) c.in-Ok.ensures
+    (subst (λ (number : ℕ). HasStalledOn s c.args.frames.items number round (g.S.Server.seen object) counters.items) c.new.ensures (c.run_workers.ensures.stalled s round object counters c.in-Ok.ensures set.3 c.classes.ensures is))
 
 pub returns-clause-goes_on : goal.returns-clause-goes_on
-returns-clause-goes_on g c ample closes whole round object is =
+returns-clause-goes_on g c ample closes whole round object counters is =
     let s : Setting = setting_by c.args.config c.args.wire c.args.manner c.args.packets.now c.in-Ok-all_workers.ensures.set.0 in
-    let on = stalls g c round object is in
+    let on = stalls g c round object counters is in
     none_stands_still s c.args.frames.items c.args.order round (record { regular = c.requires.regular; closes = closes }) ample whole (record { past = on.stalled.past; still = on.stalled.still })
 
 pub returns-clause-stalled : goal.returns-clause-stalled
-returns-clause-stalled g c round object is =
-    let on = stalls g c round object is in
+returns-clause-stalled g c round object counters is =
+    let on = stalls g c round object counters is in
     record {
       under = record {
         verdicts = c.in-Ok-all_workers.ensures.set.0;
@@ -70,4 +71,5 @@ returns-clause-stalled g c round object is =
         stalled = on.stalled;
       };
       run = on.run;
+      counted = on.counted;
     }

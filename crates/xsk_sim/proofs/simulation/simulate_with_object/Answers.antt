@@ -14,7 +14,7 @@ returns-clause-ended g c =
     }
 
 pub returns-in_err-plain-clause-stalled : goal.returns-in_err-plain-clause-stalled
-returns-in_err-plain-clause-stalled g c round plain is =
+returns-in_err-plain-clause-stalled g c round plain counters is =
     let error : c.from_residual.result ≡ Err c.in_err-plain.field-0.0 = search rules in
-    let same : c.in_err-plain.field-0.0 ≡ Stalled round plain = let e = sym error ∙ is in cc in
-    c.in_err-plain.ensures.stalled round plain (ap Err same)
+    let same : c.in_err-plain.field-0.0 ≡ Stalled round plain counters = let e = sym error ∙ is in cc in
+    c.in_err-plain.ensures.stalled round plain counters (ap Err same)

@@ -1,5 +1,7 @@
 use Rattle.std.proofs.Common.{ap, refl, subst, sym, None, Some}
+use Rattle.xsk_side.specs.Setting.{Setting}
 use Rattle.xsk_recording.specs.declared.reading.Event.{Event}
+use Rattle.xsk_recording.specs.declared.reading.Event.TheVariants as an_event
 use Rattle.xsk_check.specs.Checking.{Checked, HasTold, Hears, IsFoundAt}
 use Rattle.xsk_check.specs.declared.check.Court.{Court}
 use Rattle.xsk_check.proofs.Hearing.{found-fault, found-setting, passed, told-setting}
@@ -13,14 +15,15 @@ returns-in-Passed-clause-heard c = λ r xs heard counted number told.
     subst (λ (e : Event). Hears c.args.self.now r xs e None) (sym c.in-Passed.is)
     (λ next after. passed c.args.self.now c.args.self.now r next xs refl refl heard (subst (HasTold r xs) c.in-Passed.is told) after)
 
-pub returns-in_ok-judge-in-Setting-clause-heard : goal.returns-in_ok-judge-in-Setting-clause-heard
-returns-in_ok-judge-in-Setting-clause-heard c = λ r xs heard counted number told.
-    let court : Court = record { setting = c.in-Setting.setting; judge = c.in_ok-judge-in-Setting.judge } in
+pub returns-in_ok-court-in-Setting-clause-heard : goal.returns-in_ok-court-in-Setting-clause-heard
+returns-in_ok-court-in-Setting-clause-heard c = λ r xs heard counted number told.
+    let court : Court = c.in_ok-court-in-Setting.court in
+    let ensures = c.in_ok-court-in-Setting.ensures in
     let new : Checked = record { reading = c.self.inside.reading; court = Some court; calls = c.self.inside.calls } in
     subst (λ (e : Event). Hears new r xs e None) (sym c.in-Setting.is)
     (λ next after.
-    told-setting c.args.self.now new court r next xs refl (ap (λ (k : Checked). k.calls) c.self.view_is) c.in_ok-judge-in-Setting.ensures.ready
-    c.in_ok-judge-in-Setting.ensures.stands heard (subst (HasTold r xs) c.in-Setting.is told) after)
+    told-setting c.args.self.now new court r next xs refl (ap (λ (k : Checked). k.calls) c.self.view_is) ensures.opens ensures.follows heard
+    (subst (λ (s : Setting). HasTold r xs (an_event.Setting s)) (sym ensures.setting) (subst (HasTold r xs) c.in-Setting.is told)) after)
 
 pub returns-in-NoSetting-clause-heard : goal.returns-in-NoSetting-clause-heard
 returns-in-NoSetting-clause-heard c = λ r xs heard counted number told.
