@@ -1,5 +1,5 @@
 -- The numbers of frames as ranges, in the order in which the frames stand. The form is this project's own.
-use Rattle.std.specs.Prelude.{ℕ, ◌+◌, ◌==◌, Option, Some, None, List, [], ◌∷◌, ◌++◌, codes}
+use Rattle.std.specs.Prelude.{ℕ, ◌+◌, ◌==◌, if◌then◌else◌, Option, Some, None, List, [], ◌∷◌, ◌++◌, codes}
 use Rattle.xsk_why.specs.Numbered.{numbered}
 use Rattle.xsk_why.specs.declared.frames.Range.{Range}
 

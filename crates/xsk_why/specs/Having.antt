@@ -1,5 +1,5 @@
 -- The frames that callers have, as they are kept: one list of all, in the order in which they were got.
-use Rattle.std.specs.Prelude.{ℕ, ◌+◌, ◌==◌, ◌&&◌, Bool, true, false, Option, Some, None, List, [], ◌∷◌, ◌++◌, map, take, drop}
+use Rattle.std.specs.Prelude.{ℕ, ◌+◌, ◌==◌, ◌&&◌, Bool, true, false, if◌then◌else◌, Option, Some, None, List, [], ◌∷◌, ◌++◌, map, take, drop}
 use Rattle.xsk_model.specs.Entry.{Entry}
 use Rattle.xsk_model.specs.Object.{had_after}
 use Rattle.xsk_model.specs.declared.ask.Ask.{Ask}

@@ -1,5 +1,5 @@
 -- What the callers of an object wait for, told by their calls. The form of the lines is this project's own.
-use Rattle.std.specs.Prelude.{ℕ, Bool, true, false, ◌==◌, List, [], ◌∷◌, ◌++◌, flat_map, codes}
+use Rattle.std.specs.Prelude.{ℕ, Bool, true, false, ◌==◌, if◌then◌else◌, List, [], ◌∷◌, ◌++◌, flat_map, codes}
 use Rattle.std.specs.List.{range_with_len}
 use Rattle.xsk_model.specs.Entry.{Entry}
 use Rattle.xsk_model.specs.OtherWords.{changes}
