@@ -152,7 +152,7 @@ same_stall s frames order telling r q a b x y =
     let history : x.stalled.past.history ≡ y.stalled.past.history =
     one_history s frames order (q + 1) x.stalled.past.history y.stalled.past.history
     (subst (λ (n : ℕ). IsRoundHistory s frames order (n + 1) x.stalled.past.history) rounds x.stalled.past.is) y.stalled.past.is in
-    let told : a ≡ b = x.tells ∙ ap (told_of_stall telling s.config frames) history ∙ sym y.tells in
+    let told : a ≡ b = x.tells ∙ ap (told_of_stall telling s frames) history ∙ sym y.tells in
     ap (λ n. stalled n a) rounds ∙ ap (λ t. stalled q t) told
 
 one_stall : (work : Work) (lists : List (List (List ℕ))) (r q : ℕ) (a b : List ℕ) → IsStalledBy work lists r a → IsStalledBy work lists q b → stalled r a ≡ stalled q b

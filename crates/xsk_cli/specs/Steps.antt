@@ -16,6 +16,7 @@ use Rattle.xsk_pcapng.specs.declared.reading.BadPcapng.TheVariants.{OutOfMemory 
 use Rattle.xsk_plain.specs.Engine.{Engine}
 use Rattle.xsk_sim.specs.declared.simulation.SimError.{SimError}
 use Rattle.xsk_sim.specs.declared.simulation.SimError.TheVariants.{Stalled as HasNoEnd, OutOfMemory as RunMemory}
+use Rattle.xsk_turns.specs.declared.disposal.DriverCounters.{DriverCounters}
 use Rattle.xsk_turns.specs.declared.manner.Manner.{Manner}
 use Rattle.xsk_cli.specs.Judged.{AreShort, AreCaptures, IsBadCapture, excess_of}
 use Rattle.xsk_cli.specs.Outcome.{Written, capture_of, bad, passed, stalled, illegal, IsOutcome, IsAudited, IsStalledBy, setting_of, frames_of, bad_file}
@@ -197,12 +198,12 @@ sim_failure RunMemory = NoMemory
 abbrev pub IsStallText : ℕ → List ℕ → List ℕ → Type 0
 IsStallText round told text = text ≡ line_of (Stalled round) ++ told
 
--- why nothing is made of the object on which a run stalled in a round
-abbrev pub IsExplained : Telling → ℕ → Engine → RunFailure → Type 0
-IsExplained telling round engine (Stalls at) = (at ≡ round) × (told_on telling engine.config engine.rings engine.log ≡ [])
-IsExplained telling round engine (Explained at text) = (at ≡ round) × IsStallText round (told_on telling engine.config engine.rings engine.log) text.items
-IsExplained telling round engine NoMemory = Unit {0}
-IsExplained telling round engine failure = ⊥
+-- why nothing is made of the object on which a run stalled in a round, and of its drivers' counters
+abbrev pub IsExplained : Telling → ℕ → Engine → List DriverCounters → RunFailure → Type 0
+IsExplained telling round engine counters (Stalls at) = (at ≡ round) × (told_on telling engine.config engine.rings engine.log counters ≡ [])
+IsExplained telling round engine counters (Explained at text) = (at ≡ round) × IsStallText round (told_on telling engine.config engine.rings engine.log counters) text.items
+IsExplained telling round engine counters NoMemory = Unit {0}
+IsExplained telling round engine counters failure = ⊥
 
 -- why a run of packets gives nothing
 abbrev pub FailsRunning : Layout → List Program → Wire → Manner → ℕ → Telling → List (List (List ℕ)) → RunFailure → Type 0
