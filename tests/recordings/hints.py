@@ -1,6 +1,8 @@
 """What is possible in a recording and surely unwanted, and where all frames are at its end (docs/RECORDING.md, "What is told behind
 `possible`"): from the calls and from the judge that has judged them."""
 
+from collections import Counter
+
 from recording import GRANTED, Peek, Reserve, Ring, Submit
 
 OUTSIDE, WITHIN = "addresses outside of the UMEM", "addresses that aren't the first of a chunk"
@@ -24,21 +26,34 @@ def oddity(setting, ring, entry):
 
 
 class Hints:
-    """The lines at which something odd was done on FILL and TX, and the last line that peeks each COMPLETION; 0 is the start."""
+    """The lines at which something odd was done on FILL and TX, the last line that peeks each COMPLETION, 0 being the start, and of FILL
+    which frames are on it, and the lines at which the last of them went."""
 
     def __init__(self):
-        self.odd, self.peeked = {}, {}
+        self.odd, self.peeked, self.filled, self.dried, self.count = {}, {}, {}, {}, Counter()
 
     def note(self, setting, call, line):
         """A call of this line, which is possible."""
         ring = call.ring
         if isinstance(call, Peek):
             self.peeked[ring] = line
+            self._take([self.filled.pop(setting.frame(entry), None) for entry in call.entries], line)
         elif isinstance(call, Reserve) and call.answer != GRANTED:
             self.odd.setdefault((ring, REFUSED), []).append(line)
         elif isinstance(call, Submit):
             for what in filter(None, (oddity(setting, ring, entry) for entry in call.entries)):
                 self.odd.setdefault((ring, what), []).append(line)
+            if ring.kind == "fill":
+                frames = {setting.frame(entry): ring for entry in call.entries if setting.frame(entry) is not None}
+                self.filled.update(frames)
+                self.count[ring] += len(frames)
+
+    def _take(self, rings, line):
+        """From each of these rings a frame went in a call of this line; None is no ring."""
+        for ring in filter(None, rings):
+            self.count[ring] -= 1
+            if not self.count[ring]:
+                self.dried.setdefault(ring, []).append(line)
 
     def told(self, judge):
         """The lines of the hints, where this judge has judged the calls that were noted."""
@@ -58,6 +73,10 @@ class Hints:
             if socket.tx:
                 yield from self._made(judge, since, Ring("tx", number))
                 yield from self._unpeeked(since, Ring("tx", number), Ring("comp", socket.pair))
+        for ring in (Ring("fill", pair) for pair in range(len(setting.pairs))):
+            yield from tallied(ring, "times that no frame was left on it", self.dried.get(ring))
+            if ring in self.dried and not self.count[ring]:
+                yield f"{ring}: no frame on it from line {self.dried[ring][-1]} to the end"
 
     def _made(self, judge, since, ring):
         """Of FILL or TX."""

@@ -170,7 +170,7 @@ class Judge:
             raise Refused(KERNEL, "full", f"{ring} has {queue.size} places, {len(queue.held)} are held, and {more}")
         for entry, stood in zip(call.entries, queue.standing):
             if entry != stood:
-                raise Refused(KERNEL, "other", f"{ring} shows {entry}, and another entry has stood there since it was cancelled")
+                raise Refused(KERNEL, "other", f"{ring} shows {entry}, and {stood} has stood there since line {queue.again}")
         again = min(len(queue.standing), shown)
         numbered = list(enumerate(call.entries, queue.count))
         for number, entry in numbered[again:]:
@@ -245,7 +245,7 @@ class Judge:
         keep = len(queue.held) - call.count
         back = queue.held[keep:]
         for entry, number in back:
-            self._is_untouched(call.ring, self.setting.frame(entry), number)
+            self._is_untouched(call.ring, entry, number)
         for frame in (self.setting.frame(entry) for entry, _ in back):
             if frame is not None:
                 self.known[frame] = Known("again", call.ring, self.line)
@@ -253,11 +253,13 @@ class Judge:
         queue.standing[:0] = [entry for entry, _ in back]
         queue.count, queue.again = queue.count - call.count, self.line
 
-    def _is_untouched(self, ring, frame, number):
-        """The program has a frame by this very entry."""
+    def _is_untouched(self, ring, entry, number):
+        """The program has an entry's frame by this very entry."""
+        frame = self.setting.frame(entry)
         known = self.where(frame)
         if frame is not None and (known.place, known.ring, known.number) != ("peeked", ring, number):
-            raise Refused(PROGRAM, "passed on", f"an entry of {ring} is cancelled, and its frame was submitted since it was peeked: {known}")
+            raise Refused(PROGRAM, "passed on", f"{entry} of {ring} is cancelled, and its frame {frame} was submitted since it was peeked: "
+                                                f"{known}")
 
 
 # --------------------------------------------------------------------------------------------------------------- the verdict of a text

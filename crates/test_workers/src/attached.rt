@@ -2,28 +2,23 @@
 //! `program ether KIND SOCKETS`, `program fixed CELL`, `program atmost CELLS`, `program bounce`, `program bounce KIND`, or
 //! `program even`, which redirects packets to cell 0 whose first byte is even, and drops all others. Without one it is
 //! `program redirect 1`. And what the wire does where a packet finds no frame or no room: by `wire drop` it drops it, and else
-//! it waits. By `mangle K` applications change items, and by `after N` they await N items on the RX ring of the socket that is to be
-//! closed before they close it.
+//! it waits. By `mangle K` an application changes items, and by `after N` it awaits N items on the RX ring of the socket that is to be
+//! closed before it closes that.
 ghost use Rattle.std.specs.Prelude.{◌≡◌, ◌<◌, ◌≤◌, All, IfOk, None, length};
 ghost use Rattle.xsk_model.specs.Config.{IsRegular};
 ghost use Rattle.xsk_model.specs.Expected.{nothing};
 ghost use Rattle.xsk_prog.specs.Chain.{AllObey};
 ghost use Rattle.xsk_prog.specs.Rules.{HasSockets, IsBelow, IsRuled, Meets};
 ghost use Rattle.xsk_driver.specs.Sent.{IsShort};
-ghost use Rattle.xsk_sim.specs.Shown.{HasShortPackets};
-ghost use Rattle.xsk_socket.specs.Layout.{fault_of};
 
 use crate::trouble::Trouble;
 use crate::words::{Line, number, one_number, two_numbers};
-use fixtures::opened;
 use std::alloc::Global;
 use std::cell::Cell;
 use xsk_driver::{Driver, Wire};
 use xsk_machine::Inputs;
 use xsk_model::Config;
 use xsk_prog::{Chain, Rule, Verdict, XdpProgram};
-use xsk_sim::{Run, simulate};
-use xsk_socket::Layout;
 use xsk_turns::Manner;
 use xsk_umem::PacketList;
 
@@ -33,7 +28,6 @@ pub(crate) struct Program {
     /// Whether it redirects packets whose first byte is even, as far as the rule lets it.
     even: bool,
     wire: Wire,
-    manner: Manner,
 }
 
 /// The program of a script.
@@ -42,7 +36,6 @@ pub(crate) fn program_of(lines: &[Line<'_>]) -> Result<Program, Trouble> {
         rule: Rule::Redirect { sockets: 1 },
         even: false,
         wire: Wire::Wait,
-        manner: manner_of(lines)?,
     };
     for line in lines {
         if let Some(words) = line.behind("program") {
@@ -55,7 +48,7 @@ pub(crate) fn program_of(lines: &[Line<'_>]) -> Result<Program, Trouble> {
     Ok(program)
 }
 
-/// The manner of a script's applications.
+/// The manner of a script's application.
 pub(crate) fn manner_of(lines: &[Line<'_>]) -> Result<Manner, Trouble> {
     let mut manner = Manner::plain();
     for line in lines {
@@ -185,12 +178,7 @@ pub(crate) fn driver_of<'a>(
     requires short { All IsShort packets.now.packets }
     ensures { IfOk result (λ d. d.expected ≡ nothing) }
 {
-    let Program {
-        rule,
-        even,
-        wire,
-        ..
-    } = program;
+    let Program { rule, even, wire } = program;
     let rule = attachable(rule)?;
     let program = XdpProgram::attach(rule, |packet: &[u8], queue: u32| {
         asked.set(asked.get().saturating_add(1));
@@ -242,54 +230,4 @@ fn are_asked<F: Fn(&[u8], u32) -> Verdict>(chain: &Chain<F>, count: u64) -> bool
         }
     }
     true
-}
-
-/// A run of all workers in rounds, and the number of its pairs.
-pub(crate) fn run_of(
-    alloc: Global,
-    layout: &Layout,
-    packets: &[PacketList],
-    program: Program,
-    order: u32,
-) -> Result<(Run, u32), Trouble>
-    requires accepted { fault_of layout.now ≡ None }
-    requires lists { length packets.now ≡ layout.now.ports }
-    requires short { All HasShortPackets packets.now }
-    ensures { IfOk result (λ made. made.1 ≡ made.0.pairs) }
-{
-    let Program {
-        rule,
-        even,
-        wire,
-        manner,
-    } = program;
-    let rule = attachable(rule)?;
-    let program = XdpProgram::attach(
-        rule,
-        |packet: &[u8], queue: u32| decided(rule, even, packet, queue),
-    );
-    let mut chain = Chain::of(alloc, program)?;
-    run_under(alloc, layout, packets, &mut chain, wire, order, manner)
-}
-
-/// A run under a chain of programs, and the number of its pairs.
-fn run_under<F: Fn(&[u8], u32) -> Verdict>(
-    alloc: Global,
-    layout: &Layout,
-    packets: &[PacketList],
-    chain: &mut Chain<F>,
-    wire: Wire,
-    order: u32,
-    manner: Manner,
-) -> Result<(Run, u32), Trouble>
-    requires accepted { fault_of layout.now ≡ None }
-    requires lists { length packets.now ≡ layout.now.ports }
-    requires short { All HasShortPackets packets.now }
-    requires obeys { AllObey F.Fn chain.old }
-    ensures { IfOk result (λ made. made.1 ≡ made.0.pairs) }
-{
-    let (config, frames) = opened(alloc, layout)?;
-    let pairs = config.pairs().len() as u32;
-    let run = simulate(alloc, config, frames, packets, chain, wire, order, manner)?;
-    Ok((run, pairs))
 }

@@ -7,8 +7,6 @@
 //!   form of the journal, or a question (`parked`, `disposals`, `counters`, `sent`, `room`). Each call is printed with its reply as the
 //!   journal has it, and the last one, which got none, with `?`. A line `frames` prints the frames that the worker has, and ends
 //!   the script. A line `asked` before it prints how often the driver's program was asked.
-//! - `run ORDER`: all workers in rounds, with what came of it. A further line `journal` prints all calls, and `find TEXT`
-//!   says whether the journal has the text.
 //! - `ends`: the ends of an application by hand, beside drivers of a table.
 #![tactic(auto)]
 
@@ -20,7 +18,6 @@ mod made;
 mod packets;
 mod played;
 mod replies;
-mod rounds;
 mod script;
 mod shelf;
 mod texts;

@@ -2,7 +2,7 @@
 //! named; `packets PORT COUNT LEN` are so many, each of whose bytes are its own number.
 ghost use Rattle.std.specs.Prelude.{◌≡◌, All, IfOk, OnOk, length};
 ghost use Rattle.xsk_driver.specs.Sent.{IsShort};
-ghost use Rattle.xsk_sim.specs.Shown.{HasShortPackets};
+ghost use Rattle.xsk_machine.specs.Acts.{HasShortPackets};
 
 use crate::trouble::Trouble;
 use crate::words::{Line, byte, halves, number, three_numbers};

@@ -3,7 +3,7 @@ ghost use Rattle.std.specs.Prelude.{◌≡◌, ◌<◌, All, length};
 ghost use Rattle.xsk_model.specs.Config.{IsRegular};
 ghost use Rattle.xsk_model.specs.Expected.{nothing};
 ghost use Rattle.xsk_driver.specs.Sent.{IsShort};
-ghost use Rattle.xsk_sim.specs.Shown.{HasShortPackets};
+ghost use Rattle.xsk_machine.specs.Acts.{HasShortPackets};
 
 use crate::attached::{driver_of, manner_of, program_of};
 use crate::hand::{Hand, Worker};

@@ -2,7 +2,6 @@
 
 use crate::ends::play_ends;
 use crate::played::play_hand;
-use crate::rounds::play_run;
 use crate::trouble::Trouble;
 use crate::words::Line;
 use std::alloc::{AllocError, Global};
@@ -51,7 +50,6 @@ fn play_work(
     let played = match work {
         "driver" => play_hand(alloc, true, lines, words, rest, text),
         "app" => play_hand(alloc, false, lines, words, rest, text),
-        "run" => play_run(alloc, lines, words, rest, text),
         "ends" => play_ends(alloc, words, rest, text),
         _ => return Ok(false),
     };

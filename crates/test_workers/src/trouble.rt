@@ -1,8 +1,6 @@
 //! Why a script doesn't go on.
 
 use std::alloc::{AllocError, AllocFailed};
-use std::fmt::Write;
-use xsk_sim::SimError;
 use xsk_umem::OutOfMemory;
 
 #[derive(Clone, Copy)]
@@ -14,7 +12,6 @@ pub(crate) enum Trouble {
     NoWorker,
     BadReply,
     Miscounted,
-    Stalled(u64),
 }
 
 impl Trouble {
@@ -27,16 +24,12 @@ impl Trouble {
             Trouble::NoWorker => "there is no such worker",
             Trouble::BadReply => "that reply can't come",
             Trouble::Miscounted => "a program counts other calls than its closure",
-            Trouble::Stalled(_) => "stalled in round ",
         }
     }
 
     /// Tells it in a line.
     pub(crate) fn tell(self, text: &mut String) -> Result<(), AllocError> {
         text.push_str(self.words())?;
-        if let Trouble::Stalled(round) = self {
-            write!(text, "{round}")?;
-        }
         text.push('\n')
     }
 }
@@ -56,14 +49,5 @@ impl<T: Drop> From<AllocFailed<T>> for Trouble {
 impl From<OutOfMemory> for Trouble {
     fn from(_error: OutOfMemory) -> Trouble {
         Trouble::NoMemory
-    }
-}
-
-impl From<SimError> for Trouble {
-    fn from(error: SimError) -> Trouble {
-        match error {
-            SimError::Stalled { round } => Trouble::Stalled(round),
-            SimError::OutOfMemory => Trouble::NoMemory,
-        }
     }
 }

@@ -139,6 +139,20 @@ fn why_not(checked: &Checked, who: u32, ask: Ask, items: &mut Batch) -> Option<I
     ensures legal { IsNone result ↔ IsLegal checked.now.config (own who checked.now.log) who (joined_call ask items.old) }
     ensures why { IfSome result (λ why. Fails why checked.now.config (own who checked.now.log) who (joined_call ask items.old)) }
 {
+    if checked.permits(who, ask, items) {
+        return None;
+    }
+    why_refused(checked, who, ask, items)
+}
+
+/// The same of a call that isn't legal. Its batch is moved to and fro.
+#[inline(never)]
+fn why_refused(checked: &Checked, who: u32, ask: Ask, items: &mut Batch) -> Option<Illegal>
+    requires { HasAsked ask items.old }
+    ensures items { items.new ≡ items.old }
+    ensures legal { IsNone result ↔ IsLegal checked.now.config (own who checked.now.log) who (joined_call ask items.old) }
+    ensures why { IfSome result (λ why. Fails why checked.now.config (own who checked.now.log) who (joined_call ask items.old)) }
+{
     let call = ask.joined(mem::replace(items, Batch::new()));
     let why = checked.why_not(who, &call);
     let _ask = call.split(items);

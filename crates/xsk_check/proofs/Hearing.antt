@@ -10,6 +10,7 @@ use Rattle.xsk_side.specs.declared.call.Call.{Call}
 use Rattle.xsk_side.specs.declared.call.Call.TheVariants.{Reserve, Free, Submit, Peek, Release, Cancel}
 use Rattle.xsk_side.proofs.Fits.{possible_fits}
 use Rattle.xsk_judge.specs.Stands.{Line, IsWhy, StandsFor as StandsForLines, calls_of as calls_in}
+use Rattle.xsk_judge.specs.Reasons.{IsReasonOf}
 use Rattle.xsk_judge.specs.declared.why.Why.{Why}
 use Rattle.xsk_judge.specs.declared.why.Why.TheVariants.{Rule, Kernel, TooMany}
 use Rattle.xsk_lines.specs.Lines.{lines_of}
@@ -193,7 +194,7 @@ few-strays : (s : Setting) (r : Read) → IsCounted r → (d : ℕ) → strays_g
 few-strays s r counted d = rw (same-calls r.calls) (omega (arith, counted.1, counted.2 s d))
 
 pub found-call : (checked : Checked) (court : Court) (r : Read) (xs : List ℕ) (line : ℕ) (call : Call) (why : Why) → checked.court ≡ Some court
-    → ((lines : List Line) → StandsForLines court.setting court.judge lines → IsWhy court.setting lines call why)
+    → ((lines : List Line) → StandsForLines court.setting court.judge lines → IsWhy court.setting lines call why × IsReasonOf court.setting lines line call why)
     → line ≡ r.lines + 1 → Heard checked r → IsCounted r → HasTold r xs (an_event.Call call)
     → IsFoundAt r xs (record { verdict = a_verdict.NotPossible line; blame = Some (record { call = call; why = why }) })
 found-call checked court r xs line call why was reason number heard counted told text later begins =
@@ -202,8 +203,9 @@ found-call checked court r xs line call why was reason number heard counted told
     let header = same-header r n xs call told told.is in
     let setting : n.header.setting ≡ r.header.setting = ap (λ (h : Header). h.setting) header in
     let judges : Judges r (Some court) = subst (Judges r) was (told-judges checked r xs call heard told) in
-    let is : IsWhy n.header.setting (lines_of_calls r.calls) call why =
-    subst (λ (s : Setting). IsWhy s (lines_of_calls r.calls) call why) (judges.0 ∙ sym setting) (reason (lines_of_calls r.calls) judges.2.stands) in
+    let is : IsWhy n.header.setting (lines_of_calls r.calls) call why × IsReasonOf n.header.setting (lines_of_calls r.calls) line call why =
+    subst (λ (s : Setting). IsWhy s (lines_of_calls r.calls) call why × IsReasonOf s (lines_of_calls r.calls) line call why) (judges.0 ∙ sym setting)
+    (reason (lines_of_calls r.calls) judges.2.stands) in
     let calls : calls_of n.calls ≡ call ∷ calls_in (lines_of_calls r.calls) =
     ap calls_of told.calls_are ∙ ap (λ (cs : List Call). call ∷ cs) (sym (same-calls r.calls)) in (
       (
@@ -215,7 +217,7 @@ found-call checked court r xs line call why was reason number heard counted told
         told.is,
         ap (λ (h : Header). h.next) header ∙ in-calls r xs call told,
         λ possible.
-            why-not n.header.setting (lines_of_calls r.calls) call why is (few-strays n.header.setting r counted)
+            why-not n.header.setting (lines_of_calls r.calls) call why is.0 (few-strays n.header.setting r counted)
             (call-small-of r n xs (record { line = r.lines + 1; call = call }) told.is told.calls_are)
             (subst (Possible n.header.setting) calls possible),
         number ∙ sym step.lines,
@@ -228,7 +230,8 @@ found-call checked court r xs line call why was reason number heard counted told
         begins = begins;
         after = told.is;
         calls = subst (λ (k : ℕ). n.calls ≡ record { line = k; call = call } ∷ r.calls) (sym number) told.calls_are;
-        why = is;
+        why = is.0;
+        reason = is.1;
       },
     )
 

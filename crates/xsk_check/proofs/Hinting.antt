@@ -4,7 +4,6 @@ use Rattle.std.specs.Prelude.{◌==◌, Result, Ok, Err, OnOk}
 use Rattle.std.proofs.lemmas.Bool.{cases_Bool, eqb-true, eqb-false}
 use Rattle.xsk_side.specs.Setting.{Setting}
 use Rattle.xsk_lines.specs.Lines.{lines_of}
-use Rattle.xsk_hints.specs.Told.{hints_text}
 use Rattle.xsk_recording.specs.Text.{Read}
 use Rattle.xsk_recording.specs.Feeding.{Reader, StandsFor as StandsForText, is_calls, joined}
 use Rattle.xsk_recording.specs.Verdict.{Begins, IsSound, IsVerdict}
@@ -15,7 +14,7 @@ use Rattle.xsk_recording.specs.declared.verdict.Verdict.TheVariants as a_verdict
 use Rattle.xsk_recording.proofs.Ends.{end-begun, end-empty, end-header}
 use Rattle.xsk_recording.proofs.Feeds.{lines-joined}
 use Rattle.xsk_recording.proofs.OneVerdict.{one-verdict}
-use Rattle.xsk_check.specs.Checking.{Checked, StandsFor, IsHeard, IsOpen, Follows, Judges, AreHints, lines_of_calls}
+use Rattle.xsk_check.specs.Checking.{Checked, StandsFor, IsHeard, IsOpen, Follows, Judges, AreHints, hints_on, lines_of_calls}
 use Rattle.xsk_check.specs.declared.check.Court.{Court}
 use Rattle.xsk_check.proofs.Hearing.{heard-sound}
 
@@ -100,7 +99,7 @@ judges-whole checked text calls stands is =
 -- ---- the hints
 
 hints-are : (checked : Checked) (court : Court) (text : List ℕ) (calls : ℕ) (stands : StandsFor checked text) → IsVerdict text (a_verdict.Possible calls)
-    → court.setting ≡ stands.read.header.setting → AreHints text (hints_text court.setting (lines_of_calls stands.read.calls))
+    → court.setting ≡ stands.read.header.setting → AreHints text (hints_on court.setting (lines_of_calls stands.read.calls))
 hints-are checked court text calls stands is setting =
     let r = stands.read in
     let sound = heard-sound r.header.next r checked.court stands.heard.court in
@@ -108,7 +107,7 @@ hints-are checked court text calls stands is setting =
       read = r;
       begins = begins-whole checked.reading text r stands.reads (none-begun checked.reading text r calls stands.reads sound is) sound;
       calls = header-whole checked.reading text r calls stands.reads sound is;
-      text_is = ap (λ (s : Setting). hints_text s (lines_of_calls r.calls)) setting;
+      text_is = ap (λ (s : Setting). hints_on s (lines_of_calls r.calls)) setting;
     }
 
 -- they were put behind a text
@@ -121,12 +120,12 @@ on-ok (Err e) P Q then is = tt
 
 pub hinted : {A E : Type 0} (checked : Checked) (court : Court) (answer : Result A E) (before behind text : List ℕ) (calls : ℕ) → checked.court ≡ Some court
     → (stands : StandsFor checked text) → IsVerdict text (a_verdict.Possible calls)
-    → (Follows court (lines_of_calls stands.read.calls) → OnOk answer (behind ≡ before ++ hints_text court.setting (lines_of_calls stands.read.calls)))
+    → (Follows court (lines_of_calls stands.read.calls) → OnOk answer (behind ≡ before ++ hints_on court.setting (lines_of_calls stands.read.calls)))
     → OnOk answer (HasHints text before behind)
 hinted {A} {E} checked court answer before behind text calls here stands is told =
     let judges : Judges stands.read (Some court) = subst (Judges stands.read) here (judges-whole checked text calls stands is) in
-    on-ok answer (behind ≡ before ++ hints_text court.setting (lines_of_calls stands.read.calls)) (HasHints text before behind)
-    (λ put. (hints_text court.setting (lines_of_calls stands.read.calls), hints-are checked court text calls stands is judges.0, put))
+    on-ok answer (behind ≡ before ++ hints_on court.setting (lines_of_calls stands.read.calls)) (HasHints text before behind)
+    (λ put. (hints_on court.setting (lines_of_calls stands.read.calls), hints-are checked court text calls stands is judges.0, put))
     (told judges.2)
 
 -- without a setting there are no calls

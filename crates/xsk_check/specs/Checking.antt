@@ -3,7 +3,9 @@ use Rattle.std.specs.Prelude.{◌≡◌, ℕ, Option, Some, None, List, [], ◌�
 use Rattle.std.specs.Borrow.{Bor}
 use Rattle.xsk_side.specs.Setting.{Setting}
 use Rattle.xsk_judge.specs.Stands.{Line, IsReady as IsReadyJudge, IsWhy, StandsFor as StandsForLines}
+use Rattle.xsk_judge.specs.Reasons.{IsReasonOf}
 use Rattle.xsk_hints.specs.Noted.{IsSized, Notes}
+use Rattle.xsk_hints.specs.Fills.{Feeds, fills_text}
 use Rattle.xsk_hints.specs.Told.{hints_text}
 use Rattle.xsk_recording.specs.Text.{Numbered, Read, line_after}
 use Rattle.xsk_recording.specs.Feeding.{Reader, StandsFor as StandsForText, Tells}
@@ -45,11 +47,16 @@ lines_of_calls calls = map line_of calls
 pub record IsOpen (court : Court) : Type 0 where
   pub ready : IsReadyJudge court.setting court.judge
   pub sized : IsSized court.setting court.hints
+  pub pairs : length court.fills ≡ length court.setting.pairs
 
 -- the judge stands for these lines, and the hints are on them
 pub record Follows (court : Court) (lines : List Line) : Type 0 where
   pub stands : StandsForLines court.setting court.judge lines
   pub notes : Notes court.setting court.hints lines
+  pub feeds : Feeds court.setting court.fills lines
+
+abbrev pub hints_on : Setting → List Line → List ℕ
+hints_on s lines = hints_text s lines ++ fills_text s lines
 
 -- they are those of the header's setting and of its calls
 abbrev pub Judges : Read → Option Court → Type 0
@@ -80,7 +87,7 @@ IsReady checked = (text : List ℕ) × StandsFor checked text
 
 -- ---- what is found
 
--- the call of a line, and why it isn't possible after those before it
+-- the call of a line, and why it isn't possible after those before it: the first reason of the judge's table
 pub record IsReason (text : List ℕ) (line : ℕ) (blame : Blame) : Type 0 where
   pub read : Read
   pub last : List ℕ
@@ -90,6 +97,7 @@ pub record IsReason (text : List ℕ) (line : ℕ) (blame : Blame) : Type 0 wher
   pub after : line_after read last ≡ Some next
   pub calls : next.calls ≡ record { line = line; call = blame.call } ∷ read.calls
   pub why : IsWhy next.header.setting (lines_of_calls read.calls) blame.call blame.why
+  pub reason : IsReasonOf next.header.setting (lines_of_calls read.calls) line blame.call blame.why
 
 -- what only the end of a text can tell isn't found before it
 abbrev pub IsBlamed : List ℕ → Verdict → Option Blame → Type 0
@@ -111,7 +119,7 @@ pub record AreHints (text hints : List ℕ) : Type 0 where
   pub read : Read
   pub begins : Begins text [] read
   pub calls : read.header.next ≡ Calls
-  pub text_is : hints ≡ hints_text read.header.setting (lines_of_calls read.calls)
+  pub text_is : hints ≡ hints_on read.header.setting (lines_of_calls read.calls)
 
 -- ---- pieces
 

@@ -4,12 +4,13 @@ ghost use Rattle.xsk_recording.specs.Text.{Read};
 ghost use Rattle.xsk_recording.specs.Counts.{IsCounted};
 ghost use Rattle.xsk_recording.specs.Verdict.{IsVerdict};
 ghost use Rattle.xsk_judge.specs.Stands.{Line, IsWhy, StandsFor as StandsForLines};
-ghost use Rattle.xsk_check.specs.Checking.{AreHints, Follows, Goes, HasTold, Heard, Hears, IsOpen, IsReady, StandsFor, Steps, setting_in, setting_view};
+ghost use Rattle.xsk_judge.specs.Reasons.{IsReasonOf};
+ghost use Rattle.xsk_check.specs.Checking.{AreHints, Follows, Goes, HasTold, Heard, Hears, IsOpen, IsReady, StandsFor, Steps, hints_on, setting_in, setting_view};
 
 use crate::finding::{Blame, Finding};
 use std::alloc::Global;
 use std::marker::Model;
-use xsk_hints::Hints;
+use xsk_hints::{Fills, Hints};
 use xsk_judge::{Judge, Why};
 use xsk_recording::{Event, Reading, Verdict};
 use xsk_side::{Call, Setting};
@@ -21,6 +22,7 @@ pub(crate) struct Court {
     setting: Setting,
     judge: Judge,
     hints: Hints,
+    fills: Fills,
 }
 
 /// A recording that is read in pieces and judged. It keeps what its reader, its judge and its hints keep, and a copy of a begun line.
@@ -70,7 +72,7 @@ impl Check {
             → OnOk result ((hints : List ℕ) × AreHints bytes hints × (text.new.items ≡ text.old.items ++ hints)) }
     {
         match &self.court {
-            Some(court) => court.hints.append(text, &court.setting, &court.judge),
+            Some(court) => push_hints(text, court),
             None => Ok(()),
         }
     }
@@ -192,11 +194,22 @@ fn open_court(alloc: Global, setting: Setting) -> Result<Court, OutOfMemory>
 {
     let judge = Judge::new(alloc, &setting)?;
     let hints = Hints::new(alloc, &setting)?;
+    let fills = Fills::new(alloc, &setting)?;
     Ok(Court {
         setting,
         judge,
         hints,
+        fills,
     })
+}
+
+/// Puts the hints behind a text.
+fn push_hints(text: &mut Vec<u8>, court: &Court) -> Result<(), OutOfMemory>
+    requires { IsOpen court.now }
+    ensures { (lines : List Line) → Follows court.now lines → OnOk result (text.new.items ≡ text.old.items ++ hints_on court.now.setting lines) }
+{
+    court.hints.append(text, &court.setting, &court.judge)?;
+    court.fills.append(text, &court.setting)
 }
 
 /// The judge judges the next call; one that is possible is noted.
@@ -205,8 +218,10 @@ fn step(court: &mut Court, line: u64, call: &Call) -> Result<(), Why>
     ensures setting { court.new.setting ≡ court.old.setting }
     ensures opens { IfOk result (λ _. IsOpen court.new) }
     ensures follows { IfOk result (λ _. (lines : List Line) → Follows court.old lines → Follows court.new (record { line = line; call = call.now } ∷ lines)) }
-    ensures why { IfErr result (λ why. (lines : List Line) → StandsForLines court.old.setting court.old.judge lines → IsWhy court.old.setting lines call.now why) }
+    ensures why { IfErr result (λ why. (lines : List Line) → StandsForLines court.old.setting court.old.judge lines
+        → IsWhy court.old.setting lines call.now why × IsReasonOf court.old.setting lines line call.now why) }
 {
+    court.fills.note(&court.setting, &court.judge, line, call);
     court.judge.step(&court.setting, line, call)?;
     court.hints.note(&court.setting, line, call);
     Ok(())

@@ -78,7 +78,10 @@ pub fn named_line(line: u64, why: Why) -> Option<u64> {
             Denial::NotFilled(_, known) | Denial::NotSent(_, known) | Denial::OtherPair(_, known),
         ) => known.since,
         Why::Kernel(
-            Denial::Refused(_, shown) | Denial::FewerFree(_, shown) | Denial::Empty(_, shown),
+            Denial::Refused(_, shown)
+            | Denial::FewerFree(_, shown)
+            | Denial::Empty(_, shown)
+            | Denial::Other(_, _, shown),
         ) => shown,
         _ => 0,
     };
@@ -152,23 +155,43 @@ fn push_rule(
             text,
             "(places): {count} entries are submitted on {ring}, and {room} places are reserved"
         ),
+        Rule::Twice(i) => {
+            let (frame, _addr) = frame_of(blamed, i);
+            write!(
+                text,
+                "(twice): frame {frame} stands twice in this submit of {ring}"
+            )
+        }
         Rule::Frame(i, known) => push_frame(alloc, text, blamed, i, known),
         Rule::Release(held) => write!(
             text,
             "(release): {count} entries of {ring} are released, and {held} are peeked and not released"
         ),
         Rule::Cancel(held) => push_cancel(text, blamed, held),
-        Rule::PassedOn(_, known) => {
-            write!(
-                text,
-                "(passed on): an entry of {ring} is cancelled, and its frame was submitted since it was peeked: "
-            )?;
-            push_known(alloc, text, known)
-        }
+        Rule::PassedOn(entry, known) => push_passed_on(alloc, text, blamed, entry, known),
     }
 }
 
-/// A frame is submitted that isn't the program's, or twice.
+/// An entry is cancelled whose frame was submitted since.
+fn push_passed_on(
+    alloc: Global,
+    text: &mut String,
+    blamed: &Blamed<'_>,
+    entry: XdpDesc,
+    known: Known,
+) -> Result<(), AllocError> {
+    let ring = blamed.ring;
+    let frame = entry.addr.checked_div(u64::from(blamed.chunk)).unwrap_or(0);
+    text.push_str("(passed on): ")?;
+    push_desc(text, entry)?;
+    write!(
+        text,
+        " of {ring} is cancelled, and its frame {frame} was submitted since it was peeked: "
+    )?;
+    push_known(alloc, text, known)
+}
+
+/// A frame is submitted that isn't the program's.
 fn push_frame(
     alloc: Global,
     text: &mut String,
@@ -178,12 +201,6 @@ fn push_frame(
 ) -> Result<(), AllocError> {
     let ring = blamed.ring;
     let (frame, addr) = frame_of(blamed, i);
-    if known.since == blamed.line {
-        return write!(
-            text,
-            "(twice): frame {frame} stands twice in this submit of {ring}"
-        );
-    }
     write!(
         text,
         "(frame): frame {frame} (address {addr}) is submitted on {ring}, and isn't the program's: "
@@ -363,10 +380,12 @@ fn push_entry(
 ) -> Result<(), AllocError> {
     let ring = blamed.ring;
     match denial {
-        Denial::Other(i, _) => {
+        Denial::Other(i, stood, since) => {
             write!(text, "(other): {ring} shows ")?;
-            push_desc(text, blamed, i)?;
-            text.push_str(", and another entry has stood there since it was cancelled")
+            push_desc_at(text, blamed, i)?;
+            text.push_str(", and ")?;
+            push_desc(text, stood)?;
+            write!(text, " has stood there since line {since}")
         }
         Denial::Outside(i) => {
             let (_frame, addr) = frame_of(blamed, i);
@@ -377,7 +396,7 @@ fn push_entry(
         }
         Denial::Entry(i) => {
             write!(text, "(entry): {ring} shows ")?;
-            push_desc(text, blamed, i)?;
+            push_desc_at(text, blamed, i)?;
             text.push_str(", which no kernel puts there")
         }
         Denial::NeverSent(i) => {
@@ -445,17 +464,20 @@ fn push_other_pair(
     }
 }
 
-/// The entry with this number in the call: address, length and options.
-fn push_desc(text: &mut String, blamed: &Blamed<'_>, i: usize) -> Result<(), AllocError> {
+/// The entry with this number in the call.
+fn push_desc_at(text: &mut String, blamed: &Blamed<'_>, i: usize) -> Result<(), AllocError> {
     match blamed.entries.get(i) {
-        Some(entry) => {
-            let addr = entry.addr;
-            let len = entry.len;
-            let options = entry.options;
-            write!(text, "{addr}:{len}:{options}")
-        }
+        Some(entry) => push_desc(text, *entry),
         None => Ok(()),
     }
+}
+
+/// An entry: address, length and options.
+fn push_desc(text: &mut String, entry: XdpDesc) -> Result<(), AllocError> {
+    let addr = entry.addr;
+    let len = entry.len;
+    let options = entry.options;
+    write!(text, "{addr}:{len}:{options}")
 }
 
 /// The frame and the address of the entry with this number in the call.

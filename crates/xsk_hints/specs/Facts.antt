@@ -1,19 +1,20 @@
 -- The facts of a recording that hints tell: what is possible and surely unwanted (af_xdp.rst, "Rings", "UMEM Fill Ring", "UMEM
 -- Completion Ring", "TX Ring"), and where frames are. Lists have the latest call first; a line's number tells when.
-use Rattle.std.specs.Prelude.{ℕ, zero, suc, replicate, ◌+◌, ◌%◌, Bool, true, false, ◌&&◌, ◌==◌, not, if◌then◌else◌, Option, Some, None, List, [], ◌∷◌, ◌++◌}
+use Rattle.std.specs.Prelude.{ℕ, zero, suc, replicate, ◌+◌, ◌%◌, Bool, true, false, ◌&&◌, ◌==◌, not, nat_lt, if◌then◌else◌, Option, Some, None, List, [], ◌∷◌, ◌++◌}
 use Rattle.xsk_umem.specs.declared.batch.XdpDesc.{XdpDesc}
 use Rattle.xsk_model.specs.Descriptor.{is_inside, has_bytes, fits_chunk, has_known_options}
 use Rattle.xsk_model.specs.Rings.{is_ring}
 use Rattle.xsk_model.specs.declared.call.Ring.{Ring}
 use Rattle.xsk_model.specs.declared.call.Ring.TheVariants.{Fill, Comp, Rx, Tx}
 use Rattle.xsk_side.specs.Setting.{Setting}
+use Rattle.xsk_side.specs.Local.{given_of}
 use Rattle.xsk_side.specs.declared.call.Answer.{Answer}
 use Rattle.xsk_side.specs.declared.call.Answer.TheVariants as an_answer
 use Rattle.xsk_side.specs.declared.call.Call.{Call}
 use Rattle.xsk_side.specs.declared.call.Call.TheVariants.{Reserve, Free, Submit, Peek, Release, Cancel}
 use Rattle.xsk_judge.specs.declared.known.Spot.{Spot}
 use Rattle.xsk_judge.specs.Kept.{is_spot}
-use Rattle.xsk_judge.specs.Stands.{Line, since_of, spot_of}
+use Rattle.xsk_judge.specs.Stands.{Line, calls_of, since_of, spot_of}
 use Rattle.xsk_hints.specs.declared.oddity.Oddity.{Oddity}
 use Rattle.xsk_hints.specs.declared.oddity.Oddity.TheVariants.{Outside, Within, Empty, Crossing, Options, Refused}
 
@@ -102,3 +103,23 @@ last_peek r (l ∷ lines) = if peeks r l.call then l.line else last_peek r lines
 abbrev pub since_at : Setting → List Line → Spot → ℕ → List ℕ
 since_at s lines spot zero = []
 since_at s lines spot (suc n) = if is_spot (spot_of s n lines) spot then since_of s n lines ∷ since_at s lines spot n else since_at s lines spot n
+
+-- a sum over the numbers below n
+abbrev pub sum_below : (ℕ → ℕ) → ℕ → ℕ
+sum_below g zero = 0
+sum_below g (suc n) = sum_below g n + g n
+
+abbrev pub is_by : Ring → Option Ring → Bool
+is_by r None = false
+is_by r (Some q) = is_ring r q
+
+-- how many frames are on a ring, by the program's calls: submitted there, and not shown since
+abbrev pub count_on : Setting → Ring → List Call → ℕ
+count_on s r calls = sum_below (λ f. if is_by r (given_of s calls f) then 1 else 0) s.geometry.frames
+
+-- the lines at which the last frame went that was on it
+abbrev pub dried_at : Setting → Ring → List Line → List ℕ
+dried_at s r [] = []
+dried_at s r (l ∷ lines) =
+    if nat_lt 0 (count_on s r (calls_of lines)) && count_on s r (calls_of (l ∷ lines)) == 0 then l.line ∷ dried_at s r lines
+    else dried_at s r lines

@@ -1,3 +1,4 @@
+pub mod Fills
 pub mod Facts
 pub mod Noted
 pub mod Tallies

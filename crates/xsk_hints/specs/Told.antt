@@ -101,3 +101,7 @@ hints_text s lines =
     start_line (tally_in s lines First).count
     ++ flat_map (pair_lines s lines) (range_with_len 0 (length s.pairs))
     ++ flat_map (socket_lines s lines) (range_with_len 0 (length s.sockets))
+
+-- since which line a FILL has no frame at the end
+abbrev pub dry_line : ℕ → ℕ → List ℕ
+dry_line pair since = if since == 0 then [] else ring_text (Fill pair) ++ numbered (codes ": no frame on it from line ") since ++ codes " to the end\n"

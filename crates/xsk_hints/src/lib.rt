@@ -2,10 +2,12 @@
 //! kernel stood on the other side, as a text.
 #![tactic(auto)]
 
+mod fills;
 mod hints;
 mod oddity;
 mod rings;
 mod tally;
 mod text;
 
+pub use fills::Fills;
 pub use hints::Hints;

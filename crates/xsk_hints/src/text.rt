@@ -1,7 +1,7 @@
 //! The lines of the hints, and how a text grows.
 ghost use Rattle.std.specs.Prelude.{◌≡◌, ◌++◌, OnOk};
 ghost use Rattle.xsk_log.specs.Line.{ring_text};
-ghost use Rattle.xsk_hints.specs.Told.{numbered, count_line, tally_line, unpeeked, start_line};
+ghost use Rattle.xsk_hints.specs.Told.{numbered, count_line, tally_line, unpeeked, start_line, dry_line};
 
 use crate::tally::Tally;
 use itoa::Buffer;
@@ -91,6 +91,18 @@ pub(crate) fn push_unpeeked(
     push_ring(text, Ring::Tx(socket))?;
     push_number(text, " up to line ", tally.last)?;
     push_word(text, "\n")
+}
+
+/// Since which line FILL of a pair has no frame at the end, where it is one of a call.
+pub(crate) fn push_dry(text: &mut Vec<u8>, pair: u32, since: u64) -> Result<(), OutOfMemory>
+    ensures { OnOk result (text.new.items ≡ text.old.items ++ dry_line pair since) }
+{
+    if since == 0 {
+        return Ok(());
+    }
+    push_ring(text, Ring::Fill(pair))?;
+    push_number(text, ": no frame on it from line ", since)?;
+    push_word(text, " to the end\n")
 }
 
 /// The frames that the program has from the start, where there is one.

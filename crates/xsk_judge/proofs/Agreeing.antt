@@ -7,7 +7,7 @@ use Rattle.xsk_judge.specs.Kept.{Queue, standing}
 use Rattle.xsk_judge.proofs.Marking.{nothing}
 use Rattle.xsk_judge.proofs.Coming.{got_is}
 
-got_some : (es : List XdpDesc) (i : ℕ) (d : XdpDesc) → i < length es → slice_get es i ≡ Some (get_or es i d)
+pub got_some : (es : List XdpDesc) (i : ℕ) (d : XdpDesc) → i < length es → slice_get es i ≡ Some (get_or es i d)
 got_some [] i d low = absurd (omega (arith, low))
 got_some (x ∷ es) zero d low = refl
 got_some (x ∷ es) (suc i) d low = got_some es i d (omega (arith, low))

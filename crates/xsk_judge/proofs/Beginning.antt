@@ -53,6 +53,8 @@ stands_first s kept setting h = record {
       subst (λ k. IsKnown s [] f k) (sym is) (record { mine = refl; given = refl; since = refl; spot = refl });
   room = λ r has made. ap (λ (x : End). x.room) (first_end s kept r h has made);
   sure = λ r has made. ap (λ (x : End). x.sure) (first_end s kept r h has made);
+  shown = λ r has made. ap (λ (x : End). x.shown) (first_end s kept r h has made);
+  again = λ r has made. ap (λ (x : Queue). x.again) (first_queue s kept r h has made);
   queues = λ r has made. subst (IsQueue s [] kept.frames r) (sym (first_queue s kept r h has made))
       (record { entries = refl; held = refl; latest = λ i x low. absurd (omega (arith, low)) });
   strays = λ d low. ap (λ xs. get_or xs d 0) h.strays ∙ get_or-replicate (length s.pairs) d 0 0 low;

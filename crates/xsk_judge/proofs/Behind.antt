@@ -1,5 +1,5 @@
 -- What a judge keeps behind a call is what the calls leave.
-use Rattle.std.proofs.Common.{◌≡◌, ℕ, zero, suc, ◌+◌, ◌<◌, ◌≤◌, ◌⊎◌, Bool, true, false, ◌&&◌, ◌||◌, not, ◌==◌, Some, None, List, [], ◌∷◌, ◌++◌, length, get_or, set, refl, sym, ap, ◌∙◌, subst, arith, ⊎_elim, get_or-set_same, get_or-set_other}
+use Rattle.std.proofs.Common.{◌≡◌, ℕ, zero, suc, ◌+◌, ◌<◌, ◌≤◌, ◌⊎◌, Bool, true, false, ◌&&◌, ◌||◌, not, cond, ◌==◌, Some, None, List, [], ◌∷◌, ◌++◌, length, get_or, set, refl, sym, ap, ◌∙◌, subst, arith, ⊎_elim, get_or-set_same, get_or-set_other}
 use Rattle.std.specs.Prelude.{nat_lt, IsTrue}
 use Rattle.std.proofs.lemmas.Bool.{cases_Bool}
 use Rattle.std.proofs.lemmas.Bool.Decides.{nat_tests}
@@ -24,9 +24,9 @@ use Rattle.xsk_side.proofs.Given.{some_or_none}
 use Rattle.xsk_judge.specs.declared.known.Spot.TheVariants.{Shown, On, Back}
 use Rattle.xsk_judge.specs.declared.known.Known.{Known}
 use Rattle.xsk_judge.specs.declared.known.End.{End}
-use Rattle.xsk_judge.specs.Kept.{Queue, Kept, is_as, known_in, place, end_at}
+use Rattle.xsk_judge.specs.Kept.{Queue, Kept, is_as, known_in, place, end_at, queue_at}
 use Rattle.xsk_judge.specs.Judging.{IsFor, again, given, is_latest, marked, peeked}
-use Rattle.xsk_judge.specs.Stands.{Line, IsKnown, StandsFor, calls_of, moves, since_of, spot_behind, spot_of}
+use Rattle.xsk_judge.specs.Stands.{Line, IsKnown, StandsFor, again_since, calls_of, is_cancel, moves, shown_of, shows, since_of, spot_behind, spot_of}
 use Rattle.xsk_judge.proofs.Marking.{length-marked, marked-all, marked-none, inside_below}
 use Rattle.xsk_judge.proofs.Coming.{marked-one}
 
@@ -139,6 +139,26 @@ sure_behind s kept lines line call ends r for now h has made =
     ∙ sym (is_false (is_ring r q) (sure_after (sure_of s r calls) call) (sure_of s r calls) off))
     (same_or r q)
 
+pub shown_behind : (s : Setting) (kept : Kept) (lines : List Line) (line : ℕ) (call : Call) (ends : List End) (r : Ring) → IsFor s kept → StandsFor s kept lines → (h : IsEnd s kept call ends)
+    → h.end.shown ≡ cond (shows (end_at s kept (ring_of call)).sure call) line (end_at s kept (ring_of call)).shown
+    → HasRing s r → is_made r ≡ true → (get_or ends (place s r) no_end).shown ≡ shown_of s r (record { line = line; call = call } ∷ lines)
+shown_behind s kept lines line call ends r for now h shown has made =
+    let q = ring_of call in let calls = calls_of lines in
+    ⊎_elim
+    (λ (e : r ≡ q). subst (λ x. (get_or ends (place s x) no_end).shown ≡ shown_of s x (record { line = line; call = call } ∷ lines)) (sym e)
+    (ap (λ xs. (get_or xs (place s q) no_end).shown) h.is
+    ∙ ap (λ (x : End). x.shown) (end_here s kept.ends q h.end for.ends h.known)
+    ∙ shown
+    ∙ ap (λ k. cond (shows k call) line (end_at s kept q).shown) (now.sure q h.known h.ring)
+    ∙ ap (λ k. cond (shows (sure_of s q calls) call) line k) (now.shown q h.known h.ring)
+    ∙ sym (ap (λ b. cond (b && shows (sure_of s q calls) call) line (shown_of s q lines)) (is_ring-self q))))
+    (λ (off : is_ring r q ≡ false).
+    ap (λ xs. (get_or xs (place s r) no_end).shown) h.is
+    ∙ ap (λ (x : End). x.shown) (end_else s kept.ends r q h.end made h.ring has h.known off)
+    ∙ now.shown r has made
+    ∙ sym (ap (λ b. cond (b && shows (sure_of s r calls) call) line (shown_of s r lines)) off))
+    (same_or r q)
+
 -- behind a call on another kind of ring
 pub unlike : (r q : Ring) → is_made r ≡ true → is_made q ≡ false → is_ring r q ≡ false
 unlike (Fill d) (Comp e) m n = refl
@@ -161,6 +181,43 @@ pub sure_same : (s : Setting) (kept : Kept) (lines : List Line) (line : ℕ) (ca
     → (end_at s kept r).sure ≡ sure_of s r (calls_of (record { line = line; call = call } ∷ lines))
 sure_same s kept lines line call r now q_unmade has made =
     now.sure r has made ∙ sym (is_false (is_ring r (ring_of call)) (sure_after (sure_of s r (calls_of lines)) call) (sure_of s r (calls_of lines)) (unlike r (ring_of call) made q_unmade))
+
+pub shown_same : (s : Setting) (kept : Kept) (lines : List Line) (line : ℕ) (call : Call) (r : Ring) → StandsFor s kept lines → is_made (ring_of call) ≡ false → HasRing s r → is_made r ≡ true
+    → (end_at s kept r).shown ≡ shown_of s r (record { line = line; call = call } ∷ lines)
+shown_same s kept lines line call r now q_unmade has made =
+    now.shown r has made ∙ sym (ap (λ b. cond (b && shows (sure_of s r (calls_of lines)) call) line (shown_of s r lines)) (unlike r (ring_of call) made q_unmade))
+
+-- ---- since when entries stand there again
+
+no_cancel : (b c : Bool) (line x : ℕ) → c ≡ false → x ≡ cond (b && c) line x
+no_cancel true c line x h = sym (is_false c line x h)
+no_cancel false c line x h = refl
+
+pub again_plain : (s : Setting) (kept : Kept) (lines : List Line) (line : ℕ) (call : Call) (r : Ring) → StandsFor s kept lines → is_cancel call ≡ false → HasRing s r → is_made r ≡ false
+    → (queue_at s kept r).again ≡ again_since r (record { line = line; call = call } ∷ lines)
+again_plain s kept lines line call r now none has made = now.again r has made ∙ no_cancel (is_ring r (ring_of call)) (is_cancel call) line (again_since r lines) none
+
+pub again_off : (s : Setting) (kept : Kept) (lines : List Line) (line : ℕ) (call : Call) (r : Ring) → StandsFor s kept lines → is_ring r (ring_of call) ≡ false → HasRing s r → is_made r ≡ false
+    → (queue_at s kept r).again ≡ again_since r (record { line = line; call = call } ∷ lines)
+again_off s kept lines line call r now off has made = now.again r has made ∙ sym (ap (λ b. cond (b && is_cancel call) line (again_since r lines)) off)
+
+pub again_behind : (s : Setting) (kept : Kept) (lines : List Line) (line : ℕ) (call : Call) (queue : Queue) (q : Ring) → IsFor s kept → StandsFor s kept lines
+    → is_made (ring_of call) ≡ false → HasRing s (ring_of call) → queue.again ≡ cond (is_cancel call) line (queue_at s kept (ring_of call)).again
+    → HasRing s q → is_made q ≡ false
+    → (get_or (set kept.queues (place s (ring_of call)) queue) (place s q) no_queue).again ≡ again_since q (record { line = line; call = call } ∷ lines)
+again_behind s kept lines line call queue q for now unmade known is has made =
+    let r = ring_of call in
+    ⊎_elim
+    (λ (e : q ≡ r). subst (λ x. (get_or (set kept.queues (place s r) queue) (place s x) no_queue).again ≡ again_since x (record { line = line; call = call } ∷ lines)) (sym e)
+    (ap (λ (x : Queue). x.again) (queue_here s kept.queues r queue for.queues known)
+    ∙ is
+    ∙ ap (λ k. cond (is_cancel call) line k) (now.again r known unmade)
+    ∙ sym (ap (λ b. cond (b && is_cancel call) line (again_since r lines)) (is_ring-self r))))
+    (λ (off : is_ring q r ≡ false).
+    ap (λ (x : Queue). x.again) (queue_else s kept.queues q r queue made unmade has known off)
+    ∙ now.again q has made
+    ∙ sym (ap (λ b. cond (b && is_cancel call) line (again_since q lines)) off))
+    (same_or q r)
 
 -- ---- frames
 

@@ -79,7 +79,7 @@ still_given s r first line i es frames f q size is = ⊎_elim
 
 -- ---- one entry that comes
 
-received_inside : (s : Setting) (e : XdpDesc) → IsTrue (is_received s e) → IsTrue (is_inside s.geometry e)
+pub received_inside : (s : Setting) (e : XdpDesc) → IsTrue (is_received s e) → IsTrue (is_inside s.geometry e)
 received_inside s e h =
     is_in (is_inside s.geometry e) (has_bytes e) (fits_chunk s.geometry e) (has_known_options s.rules.sg e) (not s.rules.at_data || is_laid s e) h
   where

@@ -9,3 +9,5 @@ pub mod Peeking
 pub mod Standings
 pub mod Ready
 pub mod Beginning
+pub mod Refusals
+pub mod Reasoning

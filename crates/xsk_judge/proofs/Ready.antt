@@ -26,7 +26,8 @@ use Rattle.xsk_judge.specs.declared.known.End.{End}
 use Rattle.xsk_judge.specs.declared.why.Why.{Why}
 use Rattle.xsk_judge.specs.declared.why.Why.TheVariants.{Rule, Kernel as Denied, TooMany}
 use Rattle.xsk_judge.specs.Kept.{Queue, Kept, given_by, known_in, place, end_at, queue_at, standing, strays_at}
-use Rattle.xsk_judge.specs.Judging.{IsFor, IsSized, MayCall, MayAnswer, IsReason, after, again, given, given_in, last_held, marked, peeked, released, reserved, shown_frames, shown_queue, strays_after, told_free}
+use Rattle.xsk_judge.specs.Judging.{IsFor, IsSized, MayCall, MayAnswer, after, again, given, given_in, last_held, marked, peeked, released, reserved, shown_frames, shown_queue, strays_after, told_free}
+use Rattle.xsk_judge.specs.Refusing.{IsReason}
 use Rattle.xsk_judge.specs.Stands.{Line, StandsFor, calls_of, IsReady, IsWhy}
 use Rattle.xsk_judge.proofs.Marking.{length-marked}
 use Rattle.xsk_judge.proofs.Standing.{shown_by, legal_may, may_call, possible_not}
@@ -217,17 +218,17 @@ pub judged : (s : Setting) (line : ℕ) (kept kept' : Kept) (call : Call) → Is
 judged s line kept kept' call ready may answers is lines now =
     subst (λ k. StandsFor s k (more line call lines)) (sym is) (stands_after s line kept lines call ready.sized now may answers)
 
-pub why_not : (s : Setting) (kept : Kept) (call : Call) (why : Why) → IsReason s kept call why → (lines : List Line) → StandsFor s kept lines → IsWhy s lines call why
-why_not s kept call (Rule rule) h lines now = λ legal. h (legal_may s kept lines call now legal)
-why_not s kept call (Denied denial) h lines now = (may_call s kept lines call now h.0, possible_not s kept lines call now h.0 h.1)
-why_not s kept (Reserve r n answer) TooMany h lines now = absurd h.1
-why_not s kept (Free r n places) TooMany h lines now = absurd h.1
-why_not s kept (Submit (Fill d) es) TooMany h lines now = absurd h.1
-why_not s kept (Submit (Comp d) es) TooMany h lines now = absurd h.1
-why_not s kept (Submit (Rx k) es) TooMany h lines now = absurd h.1
-why_not s kept (Submit (Tx k) es) TooMany h lines now =
+pub why_not : (s : Setting) (line : ℕ) (kept : Kept) (call : Call) (why : Why) → IsReason s line kept call why → (lines : List Line) → StandsFor s kept lines → IsWhy s lines call why
+why_not s line kept call (Rule rule) h lines now = λ legal. h.0 (legal_may s kept lines call now legal)
+why_not s line kept call (Denied denial) h lines now = (may_call s kept lines call now h.0, possible_not s kept lines call now h.0 h.1)
+why_not s line kept (Reserve r n answer) TooMany h lines now = absurd h.1
+why_not s line kept (Free r n places) TooMany h lines now = absurd h.1
+why_not s line kept (Submit (Fill d) es) TooMany h lines now = absurd h.1
+why_not s line kept (Submit (Comp d) es) TooMany h lines now = absurd h.1
+why_not s line kept (Submit (Rx k) es) TooMany h lines now = absurd h.1
+why_not s line kept (Submit (Tx k) es) TooMany h lines now =
     let low = pair_low s (Tx k) (setting_of s now.possible.history now.possible.legal) h.0.0 in
     omega (arith, h.1, now.strays (pair_of s (Tx k)) low)
-why_not s kept (Peek r n es) TooMany h lines now = absurd h.1
-why_not s kept (Release r n) TooMany h lines now = absurd h.1
-why_not s kept (Cancel r n) TooMany h lines now = absurd h.1
+why_not s line kept (Peek r n es) TooMany h lines now = absurd h.1
+why_not s line kept (Release r n) TooMany h lines now = absurd h.1
+why_not s line kept (Cancel r n) TooMany h lines now = absurd h.1

@@ -8,12 +8,9 @@ use Rattle.xsk_side.specs.Setting.{Setting, HasRing, pair_of}
 use Rattle.xsk_side.specs.Entries.{times}
 use Rattle.xsk_side.specs.Object.{is_made}
 use Rattle.xsk_side.specs.Legal.{MayCome}
-use Rattle.xsk_side.specs.declared.call.Call.{Call}
 use Rattle.xsk_side.specs.declared.call.Call.TheVariants.{Peek}
-use Rattle.xsk_judge.specs.declared.why.Why.{Why}
-use Rattle.xsk_judge.specs.declared.why.Why.TheVariants.{Rule, Kernel, TooMany}
 use Rattle.xsk_judge.specs.Kept.{Queue, Kept, place, queue_at, strays_at, standing}
-use Rattle.xsk_judge.specs.Judging.{IsFor, CanCome, Agrees, IsDenial, IsReason, MayCall, MayAnswer, after, come_after, given_in, held_after, marked, peeked, strays_come}
+use Rattle.xsk_judge.specs.Judging.{IsFor, CanCome, Agrees, MayAnswer, after, come_after, given_in, held_after, marked, peeked, strays_come}
 
 may_come : (s : Setting) (kept : Kept) (r : Ring) (es : List XdpDesc) → CanCome s kept r es → MayCome s (given_in kept.frames) (strays_at kept (pair_of s r)) r es
 may_come s kept (Fill d) es h = tt
@@ -86,13 +83,6 @@ peek_is s line kept r n again es made is =
     same (Comp d) h = refl
     same (Rx k) h = refl
     same (Tx k) h = absurd (cc)
-
--- ---- why not
-
-pub denied_is : (s : Setting) (kept : Kept) (call : Call) (why : Why) → IsDenial why → MayCall s kept call → (MayAnswer s kept call → ⊥) → IsReason s kept call why
-denied_is s kept call (Rule rule) h may not = absurd h
-denied_is s kept call (Kernel denial) h may not = (may, not)
-denied_is s kept call TooMany h may not = absurd h
 
 pub by_way : (y : Kept) {x z : Kept} → x ≡ y → y ≡ z → x ≡ z
 by_way y h k = h ∙ k

@@ -34,7 +34,7 @@ shown_by (Tx k) h = absurd (cc)
 
 -- ---- the program's rules
 
-mine_is : (s : Setting) (kept : Kept) (lines : List Line) (es : List XdpDesc) → StandsFor s kept lines
+pub mine_is : (s : Setting) (kept : Kept) (lines : List Line) (es : List XdpDesc) → StandsFor s kept lines
     → AreMine s kept.frames es ↔ ((f : ℕ) → times s f es ≤ (cond (has_frame s f (calls_of lines)) 1 0))
 mine_is s kept lines es now = (
   λ h f. either f (has_frame s f (calls_of lines)) (λ some. subst (λ b. times s f es ≤ cond b 1 0) (now.frames f (named_below s f es some)).mine (h f)),
@@ -45,7 +45,7 @@ mine_is s kept lines es now = (
     either f b h = ⊎_elim h (λ (none : times s f es ≡ 0). omega (arith, none)) (some_or_none (times s f es))
 
 -- an entry that is held
-held_entry : (s : Setting) (calls : List Call) (frames : List Known) (r : Ring) (queue : Queue) (i : ℕ) (d : XdpDesc) (h : Held) → IsQueue s calls frames r queue → i < queue.held
+pub held_entry : (s : Setting) (calls : List Call) (frames : List Known) (r : Ring) (queue : Queue) (i : ℕ) (d : XdpDesc) (h : Held) → IsQueue s calls frames r queue → i < queue.held
     → get_or queue.entries i d ≡ (get_or (held_of s r calls) i h).entry
 held_entry s calls frames r queue i d h is low =
     let within : i < length (held_of s r calls) = omega (arith, low, is.held) in
@@ -158,11 +158,11 @@ legal_may s kept lines (Cancel r n) now h = (
 
 -- ---- the kernel's replies
 
-most_is : (s : Setting) (kept : Kept) (lines : List Line) (r : Ring) → StandsFor s kept lines → HasRing s r → is_made r ≡ true
+pub most_is : (s : Setting) (kept : Kept) (lines : List Line) (r : Ring) → StandsFor s kept lines → HasRing s r → is_made r ≡ true
     → most_at s kept r ≡ size_of s r - room_of r (calls_of lines)
 most_is s kept lines r now has made = ap (λ k. size_of s r - k) (now.room r has made)
 
-given_is : (s : Setting) (kept : Kept) (lines : List Line) (f : ℕ) → StandsFor s kept lines → f < s.geometry.frames → given_in kept.frames f ≡ given_of s (calls_of lines) f
+pub given_is : (s : Setting) (kept : Kept) (lines : List Line) (f : ℕ) → StandsFor s kept lines → f < s.geometry.frames → given_in kept.frames f ≡ given_of s (calls_of lines) f
 given_is s kept lines f now low = (now.frames f low).given
 
 pub standing_is : (s : Setting) (calls : List Call) (frames : List Known) (r : Ring) (queue : Queue) → IsQueue s calls frames r queue → standing queue ≡ back_of s r calls
@@ -170,11 +170,11 @@ standing_is s calls frames r queue is =
     ap (drop queue.held) is.entries
     ∙ drop_at (map entry_of (held_of s r calls)) (back_of s r calls) queue.held (length-map (held_of s r calls) entry_of ∙ sym is.held)
 
-pair_below : (s : Setting) (r : Ring) → (d : ℕ) → r ≡ Comp d → HasRing s r → pair_of s r < length s.pairs
+pub pair_below : (s : Setting) (r : Ring) → (d : ℕ) → r ≡ Comp d → HasRing s r → pair_of s r < length s.pairs
 pair_below s r d is has = subst (λ x. HasRing s x → pair_of s x < length s.pairs) (sym is) (λ h. h) has
 
 -- the same in other words
-come_as : (s : Setting) (from from' : ℕ → Option Ring) (strays strays' : ℕ) (r : Ring) (es : List XdpDesc) → ((d : ℕ) → r ≡ Comp d → strays ≡ strays')
+pub come_as : (s : Setting) (from from' : ℕ → Option Ring) (strays strays' : ℕ) (r : Ring) (es : List XdpDesc) → ((d : ℕ) → r ≡ Comp d → strays ≡ strays')
     → ((f : ℕ) (q : Ring) → 1 ≤ times s f es → from f ≡ Some q → from' f ≡ Some q) → MayCome s from strays r es → MayCome s from' strays' r es
 come_as s from from' strays strays' (Fill d) es same also h = tt
 come_as s from from' strays strays' (Comp d) es same also h =

@@ -29,7 +29,7 @@ use Rattle.xsk_judge.specs.Judging.{IsFor, MayCall, MayAnswer, after, again, is_
 use Rattle.xsk_judge.specs.Stands.{Line, IsQueue, StandsFor, calls_of}
 use Rattle.xsk_judge.proofs.Marking.{marked-all, marked-none, inside_below}
 use Rattle.xsk_judge.proofs.Standing.{possible_more, may_call, standing_is}
-use Rattle.xsk_judge.proofs.Behind.{IsEnd, more, known_same, known_peek, known_cancel, none_stands, one_stands, room_behind, sure_behind, room_same, sure_same, facts, unlike, queue_else, queue_here, no_queue}
+use Rattle.xsk_judge.proofs.Behind.{IsEnd, more, known_same, known_peek, known_cancel, none_stands, one_stands, room_behind, sure_behind, shown_behind, room_same, sure_same, shown_same, again_off, again_behind, facts, unlike, queue_else, queue_here, no_queue}
 use Rattle.xsk_judge.proofs.Stepping.{latest_moved, queue_plain}
 use Rattle.xsk_judge.proofs.Peeking.{queue_here_peek, queue_else_peek}
 
@@ -72,6 +72,8 @@ stands_peek s kept lines line r n es for now small may answers =
           (queue.held + length (take (length (standing queue)) es)) f for now (sym (take-append-drop (length (standing queue)) es)) low;
       room = λ q has made. room_same s kept lines line call q now may.1 has made;
       sure = λ q has made. sure_same s kept lines line call q now may.1 has made;
+      shown = λ q has made. shown_same s kept lines line call q now may.1 has made;
+      again = λ q has made. again_behind s kept lines line call (shown_queue queue es) q for now may.1 may.0 refl has made;
       queues = λ q has made. ⊎_elim
           (λ (e : q ≡ r). subst (λ x. IsQueue s (call ∷ calls) (shown_frames s line r queue kept.frames es) x (get_or (set kept.queues (place s r) (shown_queue queue es)) (place s x) no_queue)) (sym e)
           (subst (IsQueue s (call ∷ calls) (shown_frames s line r queue kept.frames es) r) (sym (queue_here s kept.queues r (shown_queue queue es) for.queues may.0))
@@ -109,6 +111,8 @@ stands_give_up s kept lines line r n for now made may kept' is =
           (is_false (stands s f (put_back s calls r n)) false (has_frame s f calls) (nothing_back f)) refl (nothing_back f);
       room = λ q has m. room_behind s kept lines line call (set kept.ends (place s r) end) q for now ends has m;
       sure = λ q has m. sure_behind s kept lines line call (set kept.ends (place s r) end) q for now ends has m;
+      shown = λ q has m. shown_behind s kept lines line call (set kept.ends (place s r) end) q for now ends refl has m;
+      again = λ q has m. again_off s kept lines line call q now (other_way r q (unlike r q made m)) has m;
       queues = λ q has m.
           let off = other_way r q (unlike r q made m) in
           queue_plain s calls kept.frames q (queue_at s kept q) call (is_false (is_ring q r) (but_last n (held_of s q calls)) (held_of s q calls) off)
@@ -228,6 +232,8 @@ stands_put_back s kept lines line r n for now unmade may kept' is =
           (put_back_given s calls r n f now.possible (may_call s kept lines call now may).untouched);
       room = λ q has m. room_same s kept lines line call q now unmade has m;
       sure = λ q has m. sure_same s kept lines line call q now unmade has m;
+      shown = λ q has m. shown_same s kept lines line call q now unmade has m;
+      again = λ q has m. again_behind s kept lines line call queue q for now unmade may.0 refl has m;
       queues = λ q has m. ⊎_elim
           (λ (e : q ≡ r). subst (λ x. IsQueue s (call ∷ calls) frames x (get_or (set kept.queues (place s r) queue) (place s x) no_queue)) (sym e)
           (subst (IsQueue s (call ∷ calls) frames r) (sym (queue_here s kept.queues r queue for.queues may.0))

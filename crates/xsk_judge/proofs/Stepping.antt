@@ -1,5 +1,5 @@
 -- A judge stands for one call more.
-use Rattle.std.proofs.Common.{◌≡◌, ℕ, zero, suc, ◌+◌, ◌-◌, ◌<◌, ◌≤◌, ◌⊎◌, ◌^◌, true, false, ◌==◌, List, [], ◌∷◌, ◌++◌, length, drop, map, get_or, set, refl, sym, ap, ◌∙◌, subst, arith, ⊎_elim, length-drop, get_or-set_same, get_or-set_other, eq-eqb, ne_eqb}
+use Rattle.std.proofs.Common.{◌≡◌, ℕ, zero, suc, ◌+◌, ◌-◌, ◌<◌, ◌≤◌, ◌⊎◌, ◌^◌, true, false, cond, ◌==◌, List, [], ◌∷◌, ◌++◌, length, drop, map, get_or, set, refl, sym, ap, ◌∙◌, subst, arith, ⊎_elim, length-drop, get_or-set_same, get_or-set_other, eq-eqb, ne_eqb}
 use Rattle.std.proofs.lemmas.List.{length-map, get_or-drop, drop-append-le}
 use Rattle.std.proofs.lemmas.Bool.{cases_Bool, cases_eq}
 use Rattle.xsk_umem.specs.declared.batch.XdpDesc.{XdpDesc}
@@ -14,6 +14,7 @@ use Rattle.xsk_side.specs.Object.{is_made}
 use Rattle.xsk_side.specs.Own.{Held, entry_of, touch, held_of}
 use Rattle.xsk_side.specs.Local.{back_of, strays_given}
 use Rattle.xsk_side.specs.declared.call.Answer.{Answer}
+use Rattle.xsk_side.specs.declared.call.Answer.TheVariants.{Granted, Full, Refused}
 use Rattle.xsk_side.specs.declared.call.Call.{Call}
 use Rattle.xsk_side.specs.declared.call.Call.TheVariants.{Reserve, Free, Submit, Release}
 use Rattle.xsk_side.proofs.Lists.{drop-map}
@@ -21,11 +22,11 @@ use Rattle.xsk_side.proofs.Frames.{times_fresh}
 use Rattle.xsk_side.proofs.Rings.{same_or, either, is_true, is_false}
 use Rattle.xsk_judge.specs.declared.known.Known.{Known}
 use Rattle.xsk_judge.specs.Kept.{Queue, Kept, is_as, known_in, numbered, place, end_at, queue_at, strays_at}
-use Rattle.xsk_judge.specs.Judging.{IsFor, MayCall, MayAnswer, after, given, is_latest, marked, released, reserved, strays_after, told_free}
-use Rattle.xsk_judge.specs.Stands.{Line, IsQueue, StandsFor, calls_of}
+use Rattle.xsk_judge.specs.Judging.{IsFor, MayCall, MayAnswer, after, given, is_latest, marked, released, reserved, shown_after, strays_after, told_free}
+use Rattle.xsk_judge.specs.Stands.{Line, IsQueue, StandsFor, calls_of, shows}
 use Rattle.xsk_judge.proofs.Standing.{possible_more}
 use Rattle.xsk_judge.specs.declared.known.End.{End}
-use Rattle.xsk_judge.proofs.Behind.{IsEnd, more, known_same, known_submit, room_behind, sure_behind, room_same, sure_same, latest_submit, latest_same, latest_off, latest_outside, touched_all, queue_else, queue_here, no_queue}
+use Rattle.xsk_judge.proofs.Behind.{IsEnd, more, known_same, known_submit, room_behind, sure_behind, shown_behind, room_same, sure_same, shown_same, again_plain, again_behind, latest_submit, latest_same, latest_off, latest_outside, touched_all, queue_else, queue_here, no_queue}
 
 -- ---- queues that a call leaves
 
@@ -64,6 +65,11 @@ queue_submit s calls frames line q r es queue size is =
 
 -- ---- calls that ask for places
 
+shown_reserved : (end : End) (line : ℕ) (r : Ring) (n : ℕ) (answer : Answer) → shown_after end line n answer ≡ cond (shows end.sure (Reserve r n answer)) line end.shown
+shown_reserved end line r n Granted = refl
+shown_reserved end line r n (Full told) = refl
+shown_reserved end line r n Refused = refl
+
 pub stands_reserve : (s : Setting) (kept : Kept) (lines : List Line) (line : ℕ) (r : Ring) (n : ℕ) (answer : Answer) → IsFor s kept → StandsFor s kept lines
     → MayCall s kept (Reserve r n answer) → MayAnswer s kept (Reserve r n answer) → StandsFor s (after s line kept (Reserve r n answer)) (more line (Reserve r n answer) lines)
 stands_reserve s kept lines line r n answer for now may answers =
@@ -74,6 +80,9 @@ stands_reserve s kept lines line r n answer for now may answers =
       frames = λ f low. known_same s lines line call f (known_in kept.frames f) (now.frames f low) refl refl refl;
       room = λ q has made. room_behind s kept lines line call (set kept.ends (place s r) (reserved (end_at s kept r) line n answer)) q for now end has made;
       sure = λ q has made. sure_behind s kept lines line call (set kept.ends (place s r) (reserved (end_at s kept r) line n answer)) q for now end has made;
+      shown = λ q has made.
+          shown_behind s kept lines line call (set kept.ends (place s r) (reserved (end_at s kept r) line n answer)) q for now end (shown_reserved (end_at s kept r) line r n answer) has made;
+      again = λ q has made. again_plain s kept lines line call q now refl has made;
       queues = λ q has made. queue_plain s calls kept.frames q (queue_at s kept q) call refl (either (is_ring q r) (back_of s q calls)) (now.queues q has made);
       strays = λ d low. now.strays d low;
     }
@@ -88,6 +97,8 @@ stands_free s kept lines line r n places for now may answers =
       frames = λ f low. known_same s lines line call f (known_in kept.frames f) (now.frames f low) refl refl refl;
       room = λ q has made. room_behind s kept lines line call (set kept.ends (place s r) (told_free (end_at s kept r) line n places)) q for now end has made;
       sure = λ q has made. sure_behind s kept lines line call (set kept.ends (place s r) (told_free (end_at s kept r) line n places)) q for now end has made;
+      shown = λ q has made. shown_behind s kept lines line call (set kept.ends (place s r) (told_free (end_at s kept r) line n places)) q for now end refl has made;
+      again = λ q has made. again_plain s kept lines line call q now refl has made;
       queues = λ q has made. queue_plain s calls kept.frames q (queue_at s kept q) call refl (either (is_ring q r) (back_of s q calls)) (now.queues q has made);
       strays = λ d low. now.strays d low;
     }
@@ -127,6 +138,8 @@ stands_submit s kept lines line r es for now below may =
       frames = λ f low. known_submit s kept lines line r es f for now low;
       room = λ q has made. room_behind s kept lines line call (set kept.ends (place s r) room) q for now end has made;
       sure = λ q has made. sure_behind s kept lines line call (set kept.ends (place s r) room) q for now end has made;
+      shown = λ q has made. shown_behind s kept lines line call (set kept.ends (place s r) room) q for now end refl has made;
+      again = λ q has made. again_plain s kept lines line call q now refl has made;
       queues = λ q has made. queue_submit s calls kept.frames line q r es (queue_at s kept q) for.frames (now.queues q has made);
       strays = λ d low. strays_submit s kept lines r es d for now may.0 may.1 below low;
     }
@@ -165,6 +178,8 @@ stands_release s kept lines line r n for now may =
       frames = λ f low. known_same s lines line call f (known_in kept.frames f) (now.frames f low) refl refl refl;
       room = λ q has made. room_same s kept lines line call q now may.1 has made;
       sure = λ q has made. sure_same s kept lines line call q now may.1 has made;
+      shown = λ q has made. shown_same s kept lines line call q now may.1 has made;
+      again = λ q has made. again_behind s kept lines line call queue q for now may.1 may.0 refl has made;
       queues = λ q has made. ⊎_elim
           (λ (e : q ≡ r). subst (λ x. IsQueue s (call ∷ calls) kept.frames x (get_or (set kept.queues (place s r) queue) (place s x) no_queue)) (sym e)
           (subst (IsQueue s (call ∷ calls) kept.frames r) (sym (queue_here s kept.queues r queue for.queues may.0))

@@ -18,8 +18,6 @@ use Rattle.xsk_side.specs.declared.call.Call.TheVariants.{Reserve, Free, Submit,
 use Rattle.xsk_judge.specs.declared.known.Place.TheVariants.{Peeked, Given, Again}
 use Rattle.xsk_judge.specs.declared.known.Known.{Known}
 use Rattle.xsk_judge.specs.declared.known.End.{End}
-use Rattle.xsk_judge.specs.declared.why.Why.{Why}
-use Rattle.xsk_judge.specs.declared.why.Why.TheVariants.{Rule, Kernel, TooMany}
 use Rattle.xsk_judge.specs.Kept.{Queue, Kept, is_mine, given_by, is_as, numbered, known_in, place, end_at, queue_at, strays_at, standing, with_end, with_queue}
 
 -- ---- sizes
@@ -224,21 +222,3 @@ held_after s line kept r known new = record kept {
     held = (queue_at s kept r).held + (length known + length new);
   });
 }
-
--- ---- why not
-
-abbrev pub IsRule : Why → Type 0
-IsRule (Rule rule) = Unit {0}
-IsRule (Kernel denial) = ⊥
-IsRule TooMany = ⊥
-
-abbrev pub IsDenial : Why → Type 0
-IsDenial (Rule rule) = ⊥
-IsDenial (Kernel denial) = Unit {0}
-IsDenial TooMany = ⊥
-
--- the program may not make the call, or no kernel may answer so, or there are too many to be counted
-abbrev pub IsReason : Setting → Kept → Call → Why → Type 0
-IsReason s kept call (Rule rule) = MayCall s kept call → ⊥
-IsReason s kept call (Kernel denial) = MayCall s kept call × (MayAnswer s kept call → ⊥)
-IsReason s kept call TooMany = MayCall s kept call × IsTooMany s kept call

@@ -1,13 +1,15 @@
 //! The judge, call by call.
-ghost use Rattle.std.specs.Prelude.{◌≡◌, ◌+◌, ◌-◌, ◌^◌, ◌<◌, ◌≤◌, ◌↔◌, ◌⊎◌, ℕ, min, [], IfOk, IfErr, IfSome, IsNone, IsTrue, List, ◌∷◌, false, length, take};
-ghost use Rattle.xsk_side.specs.Setting.{HasRing};
+ghost use Rattle.std.specs.Prelude.{◌≡◌, ◌≢◌, ◌+◌, ◌-◌, ◌^◌, ◌<◌, ◌≤◌, ◌↔◌, ◌⊎◌, ℕ, min, [], IfOk, IfErr, IfSome, IsNone, IsTrue, List, ◌∷◌, true, false, length, take};
+ghost use Rattle.xsk_side.specs.Setting.{HasRing, pair_of};
 ghost use Rattle.xsk_side.specs.Object.{is_made as made};
 ghost use Rattle.xsk_side.specs.Own.{held_of, room_of};
 ghost use Rattle.xsk_side.specs.Local.{FitsAnswer};
 ghost use Rattle.xsk_side.specs.declared.call.Call.TheVariants.{Reserve, Free, Submit, Peek, Release, Cancel};
-ghost use Rattle.xsk_judge.specs.Kept.{place, queue_at, standing};
+ghost use Rattle.xsk_judge.specs.Kept.{place, queue_at, standing, strays_at};
 ghost use Rattle.xsk_judge.specs.Stands.{Line, IsReady, IsKnown, IsWhy, StandsFor, calls_of};
-ghost use Rattle.xsk_judge.specs.Judging.{IsFor, IsRule, IsDenial, IsReason, MayCall, MayAnswer, Agrees, CanCome, after, come_after, held_after, reserved, told_free};
+ghost use Rattle.xsk_judge.specs.Judging.{IsFor, MayCall, MayAnswer, Agrees, CanCome, after, come_after, held_after, reserved, told_free};
+ghost use Rattle.xsk_judge.specs.Reasons.{AnswersNot, FreesNot, IsReasonOf, ShowsNot, entry_at};
+ghost use Rattle.xsk_judge.specs.Refusing.{IsReason, NoPlace, Stops};
 
 use crate::known::{End, Known, Place};
 use crate::queue::Queue;
@@ -69,6 +71,7 @@ impl Judge {
         ensures ready { IfOk result (λ _. IsReady setting.now self.new) }
         ensures stands { IfOk result (λ _. (lines : List Line) → StandsFor setting.now self.old lines → StandsFor setting.now self.new (record { line = line; call = call.now } ∷ lines)) }
         ensures why { IfErr result (λ why. (lines : List Line) → StandsFor setting.now self.old lines → IsWhy setting.now lines call.now why) }
+        ensures reason { IfErr result (λ why. (lines : List Line) → StandsFor setting.now self.old lines → IsReasonOf setting.now lines line call.now why) }
     {
         match self.judge(setting, line, call) {
             Ok(()) => Ok(()),
@@ -116,7 +119,7 @@ impl Judge {
     fn judge(&mut self, setting: &Setting, line: u64, call: &Call) -> Result<(), Why>
         requires { IsFor setting.now self.old }
         ensures ok { IfOk result (λ _. MayCall setting.now self.old call.now × MayAnswer setting.now self.old call.now × (self.new ≡ after setting.now line self.old call.now)) }
-        ensures why { IfErr result (λ why. IsReason setting.now self.old call.now why) }
+        ensures why { IfErr result (λ why. IsReason setting.now line self.old call.now why) }
     {
         match call {
             Call::Reserve(ring, places, answer) => self.reserve(
@@ -137,34 +140,34 @@ impl Judge {
     }
 
     /// The place of a ring that the program produces.
-    fn end_place(&self, setting: &Setting, ring: Ring) -> Result<usize, Why>
+    fn end_place(&self, setting: &Setting, ring: Ring) -> Result<usize, Rule>
         requires { IsFor setting.now self.now }
         ensures ok { IfOk result (λ at. (at ≡ place setting.now ring) × (at < length self.now.ends) × HasRing setting.now ring × IsTrue (made ring)) }
-        ensures rule { IfErr result (λ why. IsRule why × (HasRing setting.now ring × IsTrue (made ring) → ⊥)) }
+        ensures rule { IfErr result (λ rule. NoPlace setting.now true ring rule × (HasRing setting.now ring × IsTrue (made ring) → ⊥)) }
     {
         if !setting.has_ring(ring) {
-            return Err(Why::Rule(Rule::Ring));
+            return Err(Rule::Ring);
         }
         match ring {
             Ring::Fill(pair) => Ok(pair as usize),
             Ring::Tx(socket) => Ok(setting.pairs().len() + socket as usize),
-            Ring::Comp(_) | Ring::Rx(_) => Err(Why::Rule(Rule::Side)),
+            Ring::Comp(_) | Ring::Rx(_) => Err(Rule::Side),
         }
     }
 
     /// The place of a ring that the kernel produces.
-    fn queue_place(&self, setting: &Setting, ring: Ring) -> Result<usize, Why>
+    fn queue_place(&self, setting: &Setting, ring: Ring) -> Result<usize, Rule>
         requires { IsFor setting.now self.now }
         ensures ok { IfOk result (λ at. (at ≡ place setting.now ring) × (at < length self.now.queues) × HasRing setting.now ring × (made ring ≡ false)) }
-        ensures rule { IfErr result (λ why. IsRule why × (HasRing setting.now ring × (made ring ≡ false) → ⊥)) }
+        ensures rule { IfErr result (λ rule. NoPlace setting.now false ring rule × (HasRing setting.now ring × (made ring ≡ false) → ⊥)) }
     {
         if !setting.has_ring(ring) {
-            return Err(Why::Rule(Rule::Ring));
+            return Err(Rule::Ring);
         }
         match ring {
             Ring::Comp(pair) => Ok(pair as usize),
             Ring::Rx(socket) => Ok(setting.pairs().len() + socket as usize),
-            Ring::Fill(_) | Ring::Tx(_) => Err(Why::Rule(Rule::Side)),
+            Ring::Fill(_) | Ring::Tx(_) => Err(Rule::Side),
         }
     }
 
@@ -178,15 +181,15 @@ impl Judge {
     ) -> Result<(), Why>
         requires { IsFor setting.now self.old }
         ensures ok { IfOk result (λ _. MayCall setting.now self.old (Reserve ring places answer) × MayAnswer setting.now self.old (Reserve ring places answer) × (self.new ≡ after setting.now line self.old (Reserve ring places answer))) }
-        ensures why { IfErr result (λ why. IsReason setting.now self.old (Reserve ring places answer) why) }
+        ensures why { IfErr result (λ why. IsReason setting.now line self.old (Reserve ring places answer) why) }
     {
         let at = match self.end_place(setting, ring) {
             Ok(at) => at,
-            Err(why) => return Err(why),
+            Err(rule) => return Err(Why::Rule(rule)),
         };
         match answered(self.ends[at], setting.size(ring), line, places, answer) {
             Ok(end) => self.ends[at] = end,
-            Err(why) => return Err(why),
+            Err(denial) => return Err(Why::Kernel(denial)),
         }
         Ok(())
     }
@@ -201,15 +204,15 @@ impl Judge {
     ) -> Result<(), Why>
         requires { IsFor setting.now self.old }
         ensures ok { IfOk result (λ _. MayCall setting.now self.old (Free ring asked places) × MayAnswer setting.now self.old (Free ring asked places) × (self.new ≡ after setting.now line self.old (Free ring asked places))) }
-        ensures why { IfErr result (λ why. IsReason setting.now self.old (Free ring asked places) why) }
+        ensures why { IfErr result (λ why. IsReason setting.now line self.old (Free ring asked places) why) }
     {
         let at = match self.end_place(setting, ring) {
             Ok(at) => at,
-            Err(why) => return Err(why),
+            Err(rule) => return Err(Why::Rule(rule)),
         };
         match told(self.ends[at], setting.size(ring), line, asked, places) {
             Ok(end) => self.ends[at] = end,
-            Err(why) => return Err(why),
+            Err(denial) => return Err(Why::Kernel(denial)),
         }
         Ok(())
     }
@@ -223,18 +226,18 @@ impl Judge {
     ) -> Result<(), Why>
         requires { IsFor setting.now self.old }
         ensures ok { IfOk result (λ _. MayCall setting.now self.old (Submit ring entries.now) × MayAnswer setting.now self.old (Submit ring entries.now) × (self.new ≡ after setting.now line self.old (Submit ring entries.now))) }
-        ensures why { IfErr result (λ why. IsReason setting.now self.old (Submit ring entries.now) why) }
+        ensures why { IfErr result (λ why. IsReason setting.now line self.old (Submit ring entries.now) why) }
     {
         let at = match self.end_place(setting, ring) {
             Ok(at) => at,
-            Err(why) => return Err(why),
+            Err(rule) => return Err(Why::Rule(rule)),
         };
         let end = self.ends[at];
         if entries.len() > end.room as usize {
             return Err(Why::Rule(Rule::Places(end.room)));
         }
-        if let Err(why) = marks::give(self.frames.as_mut_slice(), setting, line, ring, entries) {
-            return Err(why);
+        if let Err(rule) = marks::give(self.frames.as_mut_slice(), setting, line, ring, entries) {
+            return Err(Why::Rule(rule));
         }
         self.ends[at] = End {
             room: end.room - entries.len() as u32,
@@ -261,21 +264,21 @@ impl Judge {
     ) -> Result<(), Why>
         requires { IsFor setting.now self.old }
         ensures ok { IfOk result (λ _. MayCall setting.now self.old (Peek ring asked entries.now) × MayAnswer setting.now self.old (Peek ring asked entries.now) × (self.new ≡ after setting.now line self.old (Peek ring asked entries.now))) }
-        ensures why { IfErr result (λ why. IsReason setting.now self.old (Peek ring asked entries.now) why) }
+        ensures why { IfErr result (λ why. IsReason setting.now line self.old (Peek ring asked entries.now) why) }
     {
         let at = match self.queue_place(setting, ring) {
             Ok(at) => at,
-            Err(why) => return Err(why),
+            Err(rule) => return Err(Why::Rule(rule)),
         };
         let again = match agreed(&self.queues[at], asked, entries) {
             Ok(again) => again,
-            Err(why) => return Err(why),
+            Err(denial) => return Err(Why::Kernel(denial)),
         };
         let (known, new) = entries.split_at(again as usize);
         let first = self.queues[at].first();
         let held = self.queues[at].held();
-        if let Err(why) = self.come(setting, line, ring, first, held + again, known.len(), new) {
-            return Err(why);
+        if let Err(denial) = self.come(setting, line, ring, first, held + again, known.len(), new) {
+            return Err(Why::Kernel(denial));
         }
         self.hold(setting, line, ring, at, known, new);
         Ok(())
@@ -323,14 +326,14 @@ impl Judge {
         at: u32,
         skipped: usize,
         entries: &[XdpDesc],
-    ) -> Result<(), Why>
+    ) -> Result<(), Denial>
         requires kind { IsFor setting.now self.old }
         requires ring { HasRing setting.now ring }
         requires side { made ring ≡ false }
         requires few { at + length entries.now < 2 ^ 32 }
         requires counted { skipped + length entries.now < 2 ^ 32 }
         ensures ok { IfOk result (λ _. CanCome setting.now self.old ring entries.now × (self.new ≡ come_after setting.now line self.old ring first at entries.now)) }
-        ensures denied { IfErr result (λ why. IsDenial why × (CanCome setting.now self.old ring entries.now → ⊥)) }
+        ensures denied { IfErr result (λ denial. (CanCome setting.now self.old ring entries.now → ⊥) × Stops setting.now self.old.frames ring first line at skipped (strays_at self.old (pair_of setting.now ring)) entries.now denial) }
     {
         let frames = self.frames.as_mut_slice();
         match ring {
@@ -343,7 +346,7 @@ impl Judge {
                     frames, setting, line, pair, first, at, skipped, strays, entries,
                 ) {
                     Ok(left) => self.strays[pair as usize] = left,
-                    Err(why) => return Err(why),
+                    Err(denial) => return Err(denial),
                 }
                 Ok(())
             }
@@ -354,11 +357,11 @@ impl Judge {
     fn release(&mut self, setting: &Setting, ring: Ring, count: u32) -> Result<(), Why>
         requires { IsFor setting.now self.old }
         ensures ok { IfOk result (λ _. MayCall setting.now self.old (Release ring count) × MayAnswer setting.now self.old (Release ring count) × (self.new ≡ after setting.now 0 self.old (Release ring count))) }
-        ensures why { IfErr result (λ why. IsReason setting.now self.old (Release ring count) why) }
+        ensures why { IfErr result (λ why. (line : ℕ) → IsReason setting.now line self.old (Release ring count) why) }
     {
         let at = match self.queue_place(setting, ring) {
             Ok(at) => at,
-            Err(why) => return Err(why),
+            Err(rule) => return Err(Why::Rule(rule)),
         };
         let held = self.queues[at].held();
         if count > held {
@@ -371,27 +374,27 @@ impl Judge {
     fn cancel(&mut self, setting: &Setting, line: u64, ring: Ring, count: u32) -> Result<(), Why>
         requires { IsFor setting.now self.old }
         ensures ok { IfOk result (λ _. MayCall setting.now self.old (Cancel ring count) × MayAnswer setting.now self.old (Cancel ring count) × (self.new ≡ after setting.now line self.old (Cancel ring count))) }
-        ensures why { IfErr result (λ why. IsReason setting.now self.old (Cancel ring count) why) }
+        ensures why { IfErr result (λ why. IsReason setting.now line self.old (Cancel ring count) why) }
     {
         if is_made(ring) {
             return self.give_up(setting, line, ring, count);
         }
         let at = match self.queue_place(setting, ring) {
             Ok(at) => at,
-            Err(why) => return Err(why),
+            Err(rule) => return Err(Why::Rule(rule)),
         };
         let held = self.queues[at].held();
         if count > held {
             return Err(Why::Rule(Rule::Cancel(held)));
         }
-        if let Err(why) = marks::are_latest(
+        if let Err(rule) = marks::are_latest(
             self.frames.as_slice(),
             setting,
             ring,
             &self.queues[at],
             count,
         ) {
-            return Err(why);
+            return Err(Why::Rule(rule));
         }
         marks::put_back(
             self.frames.as_mut_slice(),
@@ -410,11 +413,11 @@ impl Judge {
         requires kind { IsFor setting.now self.old }
         requires ring { IsTrue (made ring) }
         ensures ok { IfOk result (λ _. MayCall setting.now self.old (Cancel ring count) × MayAnswer setting.now self.old (Cancel ring count) × (self.new ≡ after setting.now line self.old (Cancel ring count))) }
-        ensures why { IfErr result (λ why. IsReason setting.now self.old (Cancel ring count) why) }
+        ensures why { IfErr result (λ why. IsReason setting.now line self.old (Cancel ring count) why) }
     {
         let at = match self.end_place(setting, ring) {
             Ok(at) => at,
-            Err(why) => return Err(why),
+            Err(rule) => return Err(Why::Rule(rule)),
         };
         let end = self.ends[at];
         if count > end.room {
@@ -426,16 +429,16 @@ impl Judge {
 }
 
 /// What is known behind the answer to a call that asks for places of a ring of that size.
-fn answered(end: End, size: u32, line: u64, places: u32, answer: Answer) -> Result<End, Why>
+fn answered(end: End, size: u32, line: u64, places: u32, answer: Answer) -> Result<End, Denial>
     requires { end.room + end.sure ≤ size }
     ensures ok { IfOk result (λ now. FitsAnswer end.sure (size - end.room) places answer × (now ≡ reserved end line places answer)) }
-    ensures denied { IfErr result (λ why. IsDenial why × (FitsAnswer end.sure (size - end.room) places answer → ⊥)) }
+    ensures denied { IfErr result (λ denial. (FitsAnswer end.sure (size - end.room) places answer → ⊥) × AnswersNot end.sure end.shown (size - end.room) line places answer denial) }
 {
     let most = size - end.room;
     match answer {
         Answer::Granted => {
             if places > most {
-                return Err(Why::Kernel(Denial::Granted(most)));
+                return Err(Denial::Granted(most));
             }
             Ok(End {
                 room: end.room + places,
@@ -445,13 +448,13 @@ fn answered(end: End, size: u32, line: u64, places: u32, answer: Answer) -> Resu
         }
         Answer::Full(free) => {
             if free >= places {
-                return Err(Why::Kernel(Denial::Refused(free, line)));
+                return Err(Denial::Refused(free, line));
             }
             if free > most {
-                return Err(Why::Kernel(Denial::Taken(most)));
+                return Err(Denial::Taken(most));
             }
             if free < end.sure {
-                return Err(Why::Kernel(Denial::FewerFree(end.sure, end.shown)));
+                return Err(Denial::FewerFree(end.sure, end.shown));
             }
             Ok(End {
                 room: end.room,
@@ -461,7 +464,7 @@ fn answered(end: End, size: u32, line: u64, places: u32, answer: Answer) -> Resu
         }
         Answer::Refused => {
             if end.sure >= places {
-                return Err(Why::Kernel(Denial::Refused(end.sure, end.shown)));
+                return Err(Denial::Refused(end.sure, end.shown));
             }
             Ok(end)
         }
@@ -482,17 +485,17 @@ fn given_up(end: End, size: u32, count: u32) -> End
 }
 
 /// What is known behind the reply to a call that asks whether places are free.
-fn told(end: End, size: u32, line: u64, asked: u32, places: u32) -> Result<End, Why>
+fn told(end: End, size: u32, line: u64, asked: u32, places: u32) -> Result<End, Denial>
     requires { end.room + end.sure ≤ size }
     ensures ok { IfOk result (λ now. (places ≤ size - end.room) × (places < asked → end.sure ≤ places) × (now ≡ told_free end line asked places)) }
-    ensures denied { IfErr result (λ why. IsDenial why × ((places ≤ size - end.room) × (places < asked → end.sure ≤ places) → ⊥)) }
+    ensures denied { IfErr result (λ denial. ((places ≤ size - end.room) × (places < asked → end.sure ≤ places) → ⊥) × FreesNot end.sure end.shown (size - end.room) asked places denial) }
 {
     let most = size - end.room;
     if places > most {
-        return Err(Why::Kernel(Denial::Granted(most)));
+        return Err(Denial::Granted(most));
     }
     if places < asked && places < end.sure {
-        return Err(Why::Kernel(Denial::FewerFree(end.sure, end.shown)));
+        return Err(Denial::FewerFree(end.sure, end.shown));
     }
     let shows = places < asked || end.sure < places;
     Ok(End {
@@ -504,24 +507,25 @@ fn told(end: End, size: u32, line: u64, asked: u32, places: u32) -> Result<End, 
 
 /// How many of the entries that are shown stood in the ring before: as many as stand there again, or all, which must be the same. The
 /// ring must have places for all.
-fn agreed(queue: &Queue, asked: u32, entries: &[XdpDesc]) -> Result<u32, Why>
+fn agreed(queue: &Queue, asked: u32, entries: &[XdpDesc]) -> Result<u32, Denial>
     ensures ok { IfOk result (λ again. (again ≡ min (length (standing queue.now)) (length entries.now)) × Agrees queue.now asked entries.now) }
-    ensures denied { IfErr result (λ why. IsDenial why × (Agrees queue.now asked entries.now → ⊥)) }
+    ensures denied { IfErr result (λ denial. (Agrees queue.now asked entries.now → ⊥) × ShowsNot (standing queue.now) queue.now.held queue.now.size queue.now.again asked entries.now denial) }
 {
     if entries.len() > asked as usize {
-        return Err(Why::Kernel(Denial::More));
+        return Err(Denial::More);
     }
     let standing = queue.standing();
     if entries.is_empty() && asked > 0 && standing > 0 {
-        return Err(Why::Kernel(Denial::Empty(standing, queue.again())));
+        return Err(Denial::Empty(standing, queue.again()));
     }
     let held = queue.held();
     if entries.len() > (queue.size() - held) as usize {
-        return Err(Why::Kernel(Denial::Full(held)));
+        return Err(Denial::Full(held));
     }
     let again = standing.min(entries.len() as u32);
     if let Some(i) = first_other(queue, again, entries) {
-        return Err(Why::Kernel(Denial::Other(i as usize, entries[i as usize])));
+        let stood = queue.stood(held + i);
+        return Err(Denial::Other(i as usize, stood, queue.again()));
     }
     Ok(again)
 }
@@ -531,7 +535,7 @@ fn first_other(queue: &Queue, again: u32, entries: &[XdpDesc]) -> Option<u32>
     requires standing { again ≤ length (standing queue.now) }
     requires within { again ≤ length entries.now }
     ensures same { IsNone result ↔ (take again entries.now ≡ take again (standing queue.now)) }
-    ensures known { IfSome result (λ i. i < again) }
+    ensures known { IfSome result (λ i. (i < again) × (take i entries.now ≡ take i (standing queue.now)) × (entry_at entries.now i ≢ entry_at (standing queue.now) i)) }
 {
     let held = queue.held();
     for i in 0..again {

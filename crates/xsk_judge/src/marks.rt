@@ -1,16 +1,18 @@
 //! Where the frames of a call's entries are, before it and behind it.
-ghost use Rattle.std.specs.Prelude.{◌≡◌, ◌+◌, ◌^◌, ◌<◌, ◌≤◌, ℕ, if◌then◌else◌, true, false, IfOk, IfErr, Some, length};
+ghost use Rattle.std.specs.Prelude.{◌≡◌, ◌+◌, ◌^◌, ◌<◌, ◌≤◌, ℕ, if◌then◌else◌, true, false, IfOk, IfErr, IsTrue, Some, length};
 ghost use Rattle.xsk_model.specs.declared.call.Ring.TheVariants.{Comp, Rx, Tx};
 ghost use Rattle.xsk_model.specs.Descriptor.{is_inside};
 ghost use Rattle.xsk_side.specs.Setting.{HasRing};
-ghost use Rattle.xsk_side.specs.Entries.{frame as frame_number, strays_in};
+ghost use Rattle.xsk_side.specs.Entries.{frame as frame_number, names as is_named, stands, strays_in};
 ghost use Rattle.xsk_side.specs.Legal.{IsReceived, IsCompleted};
 ghost use Rattle.xsk_judge.specs.Kept.{known_in};
-ghost use Rattle.xsk_judge.specs.Judging.{IsMineAt, AreMine, is_latest, AreLatest, AreNew, IsRule, IsDenial, marked, given, again, peeked, given_in, last_held, set_known};
+ghost use Rattle.xsk_judge.specs.Judging.{IsMineAt, AreMine, is_latest, AreLatest, AreNew, marked, given, again, peeked, given_in, last_held, set_known};
+ghost use Rattle.xsk_judge.specs.Reasons.{ComesNot, GivesNot};
+ghost use Rattle.xsk_judge.specs.Refusing.{IsIn, PassesOn, Stops, mine_in};
 
 use crate::known::{Known, Place};
 use crate::queue::Queue;
-use crate::why::{Denial, Rule, Why};
+use crate::why::{Denial, Rule};
 use xsk_model::Ring;
 use xsk_side::Setting;
 use xsk_umem::XdpDesc;
@@ -25,21 +27,22 @@ fn mark(frames: &mut [Known], setting: &Setting, entry: XdpDesc, known: Known)
     }
 }
 
-/// The program gives away the frame that the entry names, if it names one. The frame must be its, and else it is told where it is.
+/// The program gives away the frame that the entry names, if it names one. The frame must be its, and else it is told which it is, and
+/// where.
 fn give_one(
     frames: &mut [Known],
     setting: &Setting,
     entry: XdpDesc,
     known: Known,
-) -> Result<(), Known>
+) -> Result<(), (u32, Known)>
     requires { length frames.old ≡ setting.now.geometry.frames }
     ensures ok { IfOk result (λ _. (frames.new ≡ set_known setting.now frames.old entry known) × IsMineAt setting.now frames.old entry) }
-    ensures not_mine { IfErr result (λ there. (IsMineAt setting.now frames.old entry → ⊥) × (there ≡ known_in frames.old (frame_number setting.now entry))) }
+    ensures not_mine { IfErr result (λ told. (IsMineAt setting.now frames.old entry → ⊥) × IsTrue (is_inside setting.now.geometry entry) × (told.0 ≡ frame_number setting.now entry) × IsIn frames.old told.0 told.1) }
 {
     if let Some(frame) = setting.frame(entry) {
         let there = frames[frame as usize];
         if !there.place.is_mine() {
-            return Err(there);
+            return Err((frame, there));
         }
         frames[frame as usize] = known;
     }
@@ -53,21 +56,46 @@ pub(crate) fn give(
     line: u64,
     ring: Ring,
     entries: &[XdpDesc],
-) -> Result<(), Why>
+) -> Result<(), Rule>
     requires { length frames.old ≡ setting.now.geometry.frames }
     ensures ok { IfOk result (λ _. (frames.new ≡ marked setting.now (given ring line) 0 entries.now frames.old) × AreMine setting.now frames.old entries.now) }
-    ensures rule { IfErr result (λ why. IsRule why × (AreMine setting.now frames.old entries.now → ⊥)) }
+    ensures rule { IfErr result (λ rule. (AreMine setting.now frames.old entries.now → ⊥) × GivesNot setting.now (mine_in frames.old) (IsIn frames.old) entries.now rule) }
 {
     let known = Known {
         place: Place::Given(ring),
         since: line,
     };
     for i in 0..entries.len() {
-        if let Err(there) = give_one(frames, setting, entries[i], known) {
-            return Err(Why::Rule(Rule::Frame(i, there)));
+        if let Err((frame, there)) = give_one(frames, setting, entries[i], known) {
+            if stands_among(setting, &entries[..i], frame) {
+                return Err(Rule::Twice(i));
+            }
+            return Err(Rule::Frame(i, there));
         }
     }
     Ok(())
+}
+
+/// Whether one of the entries names the frame.
+fn stands_among(setting: &Setting, entries: &[XdpDesc], frame: u32) -> bool
+    ensures { result ≡ stands setting.now frame entries.now }
+{
+    for i in 0..entries.len() {
+        if names(setting, entries[i], frame) {
+            return true;
+        }
+    }
+    false
+}
+
+/// Whether the entry names the frame.
+fn names(setting: &Setting, entry: XdpDesc, frame: u32) -> bool
+    ensures { result ≡ is_named setting.now frame entry }
+{
+    match setting.frame(entry) {
+        Some(named) => named == frame,
+        None => false,
+    }
 }
 
 /// Keeps of each entry that is shown, from the one of this number on, that its frame is the program's by it.
@@ -101,24 +129,24 @@ fn receive_one(
     i: usize,
     entry: XdpDesc,
     known: Known,
-) -> Result<(), Why>
+) -> Result<(), Denial>
     requires size { length frames.old ≡ setting.now.geometry.frames }
     requires ring { HasRing setting.now (Rx socket) }
     ensures ok { IfOk result (λ _. (frames.new ≡ set_known setting.now frames.old entry known) × IsReceived setting.now (given_in frames.old) socket entry) }
-    ensures denied { IfErr result (λ why. IsDenial why × (IsReceived setting.now (given_in frames.old) socket entry → ⊥)) }
+    ensures denied { IfErr result (λ denial. (IsReceived setting.now (given_in frames.old) socket entry → ⊥) × ((strays : ℕ) → ComesNot setting.now (Rx socket) (IsIn frames.old (frame_number setting.now entry)) strays i entry denial)) }
 {
     let Some(frame) = setting.frame(entry) else {
-        return Err(Why::Kernel(Denial::Outside(i)));
+        return Err(Denial::Outside(i));
     };
     if !setting.is_received(entry) {
-        return Err(Why::Kernel(Denial::Entry(i)));
+        return Err(Denial::Entry(i));
     }
     let there = frames[frame as usize];
     let Place::Given(Ring::Fill(pair)) = there.place else {
-        return Err(Why::Kernel(Denial::NotFilled(i, there)));
+        return Err(Denial::NotFilled(i, there));
     };
     if setting.rules().own && pair != setting.pair(Ring::Rx(socket)) {
-        return Err(Why::Kernel(Denial::OtherPair(i, there)));
+        return Err(Denial::OtherPair(i, there));
     }
     frames[frame as usize] = known;
     Ok(())
@@ -134,21 +162,21 @@ pub(crate) fn receive(
     at: u32,
     skipped: usize,
     entries: &[XdpDesc],
-) -> Result<(), Why>
+) -> Result<(), Denial>
     requires size { length frames.old ≡ setting.now.geometry.frames }
     requires ring { HasRing setting.now (Rx socket) }
     requires few { at + length entries.now < 2 ^ 32 }
     requires counted { skipped + length entries.now < 2 ^ 32 }
     ensures ok { IfOk result (λ _. (frames.new ≡ marked setting.now (peeked (Rx socket) first line) at entries.now frames.old) × AreNew setting.now frames.old (Rx socket) entries.now) }
-    ensures denied { IfErr result (λ why. IsDenial why × (AreNew setting.now frames.old (Rx socket) entries.now → ⊥)) }
+    ensures denied { IfErr result (λ denial. (AreNew setting.now frames.old (Rx socket) entries.now → ⊥) × ((strays : ℕ) → Stops setting.now frames.old (Rx socket) first line at skipped strays entries.now denial)) }
 {
     for i in 0..entries.len() {
         let known = Known {
             place: Place::Peeked(Ring::Rx(socket), first.wrapping_add(at + i as u32)),
             since: line,
         };
-        if let Err(why) = receive_one(frames, setting, socket, skipped + i, entries[i], known) {
-            return Err(why);
+        if let Err(denial) = receive_one(frames, setting, socket, skipped + i, entries[i], known) {
+            return Err(denial);
         }
     }
     Ok(())
@@ -162,24 +190,24 @@ fn complete_one(
     i: usize,
     entry: XdpDesc,
     known: Known,
-) -> Result<(), Why>
+) -> Result<(), Denial>
     requires size { length frames.old ≡ setting.now.geometry.frames }
     requires sent { (f t : ℕ) → given_in frames.old f ≡ Some (Tx t) → HasRing setting.now (Tx t) }
     ensures ok { IfOk result (λ _. (frames.new ≡ set_known setting.now frames.old entry known) × IsCompleted setting.now (given_in frames.old) pair entry) }
-    ensures denied { IfErr result (λ why. IsDenial why × (IsCompleted setting.now (given_in frames.old) pair entry → ⊥)) }
+    ensures denied { IfErr result (λ denial. (IsCompleted setting.now (given_in frames.old) pair entry → ⊥) × ((strays : ℕ) → ComesNot setting.now (Comp pair) (IsIn frames.old (frame_number setting.now entry)) strays i entry denial)) }
 {
     if entry.len != 0 || entry.options != 0 {
-        return Err(Why::Kernel(Denial::Entry(i)));
+        return Err(Denial::Entry(i));
     }
     let Some(frame) = setting.frame(entry) else {
         return Ok(());
     };
     let there = frames[frame as usize];
     let Place::Given(Ring::Tx(socket)) = there.place else {
-        return Err(Why::Kernel(Denial::NotSent(i, there)));
+        return Err(Denial::NotSent(i, there));
     };
     if setting.pair(Ring::Tx(socket)) != pair {
-        return Err(Why::Kernel(Denial::OtherPair(i, there)));
+        return Err(Denial::OtherPair(i, there));
     }
     frames[frame as usize] = known;
     Ok(())
@@ -197,13 +225,13 @@ pub(crate) fn complete(
     skipped: usize,
     strays: u64,
     entries: &[XdpDesc],
-) -> Result<u64, Why>
+) -> Result<u64, Denial>
     requires size { length frames.old ≡ setting.now.geometry.frames }
     requires few { at + length entries.now < 2 ^ 32 }
     requires counted { skipped + length entries.now < 2 ^ 32 }
     requires sent { (f t : ℕ) → given_in frames.old f ≡ Some (Tx t) → HasRing setting.now (Tx t) }
     ensures ok { IfOk result (λ left. (frames.new ≡ marked setting.now (peeked (Comp pair) first line) at entries.now frames.old) × AreNew setting.now frames.old (Comp pair) entries.now × (left + strays_in setting.now entries.now ≡ strays)) }
-    ensures denied { IfErr result (λ why. IsDenial why × (AreNew setting.now frames.old (Comp pair) entries.now × (strays_in setting.now entries.now ≤ strays) → ⊥)) }
+    ensures denied { IfErr result (λ denial. (AreNew setting.now frames.old (Comp pair) entries.now × (strays_in setting.now entries.now ≤ strays) → ⊥) × Stops setting.now frames.old (Comp pair) first line at skipped strays entries.now denial) }
 {
     let mut left = strays;
     for i in 0..entries.len() {
@@ -211,12 +239,12 @@ pub(crate) fn complete(
             place: Place::Peeked(Ring::Comp(pair), first.wrapping_add(at + i as u32)),
             since: line,
         };
-        if let Err(why) = complete_one(frames, setting, pair, skipped + i, entries[i], known) {
-            return Err(why);
+        if let Err(denial) = complete_one(frames, setting, pair, skipped + i, entries[i], known) {
+            return Err(denial);
         }
         let stray = stray(setting, entries[i]);
         if left < stray {
-            return Err(Why::Kernel(Denial::NeverSent(skipped + i)));
+            return Err(Denial::NeverSent(skipped + i));
         }
         left -= stray;
     }
@@ -251,11 +279,11 @@ pub(crate) fn are_latest(
     ring: Ring,
     queue: &Queue,
     count: u32,
-) -> Result<(), Why>
+) -> Result<(), Rule>
     requires size { length frames.now ≡ setting.now.geometry.frames }
     requires few { count ≤ queue.now.held }
     ensures ok { IfOk result (λ _. AreLatest setting.now frames.now ring queue.now count) }
-    ensures rule { IfErr result (λ why. IsRule why × (AreLatest setting.now frames.now ring queue.now count → ⊥)) }
+    ensures rule { IfErr result (λ rule. (AreLatest setting.now frames.now ring queue.now count → ⊥) × PassesOn setting.now frames.now ring queue.now count rule) }
 {
     let start = queue.held() - count;
     for k in 0..count {
@@ -264,7 +292,7 @@ pub(crate) fn are_latest(
             return Ok(());
         };
         if let Err(there) = latest(frames, setting, ring, queue.numbered(i), entry) {
-            return Err(Why::Rule(Rule::PassedOn(i, there)));
+            return Err(Rule::PassedOn(entry, there));
         }
     }
     Ok(())

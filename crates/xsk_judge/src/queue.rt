@@ -94,6 +94,17 @@ impl Queue {
         self.entries.get(i as usize).copied()
     }
 
+    /// The entry in this place behind the first.
+    pub(crate) fn stood(&self, i: u32) -> XdpDesc
+        requires { i < length self.now.entries }
+        ensures { slice_get self.now.entries i ≡ Some result }
+    {
+        match self.entries.get(i as usize) {
+            Some(entry) => *entry,
+            None => unreachable!(),
+        }
+    }
+
     /// Whether this entry stands in this place behind the first.
     pub(crate) fn is_at(&self, i: u32, entry: XdpDesc) -> bool
         ensures { IsTrue result ↔ (slice_get self.now.entries i ≡ Some entry) }

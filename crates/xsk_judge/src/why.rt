@@ -22,14 +22,16 @@ pub enum Rule {
     Side,
     /// More entries are submitted than places are reserved: so many are.
     Places(u32),
-    /// This entry's frame isn't the program's; since this very line where it stands twice in the call.
+    /// This entry's frame stands in the call before it too.
+    Twice(usize),
+    /// This entry's frame isn't the program's.
     Frame(usize, Known),
     /// More entries are released than are peeked and not released: so many are.
     Release(u32),
     /// More is given up than the program holds: so many entries, or places of FILL and TX.
     Cancel(u32),
-    /// An entry is cancelled whose frame was submitted since: so many entries of the ring stand before it, and its frame is there.
-    PassedOn(u32, Known),
+    /// This entry is cancelled, and its frame, which is there, was submitted since it was peeked.
+    PassedOn(XdpDesc, Known),
 }
 
 /// Why no kernel answers so.
@@ -49,8 +51,8 @@ pub enum Denial {
     Full(u32),
     /// Nothing came, and so many entries stand there, since this line.
     Empty(u32, u64),
-    /// This entry isn't the one that stands there.
-    Other(usize, XdpDesc),
+    /// This entry isn't the one that has stood there since this line.
+    Other(usize, XdpDesc, u64),
     /// This entry's address is outside of the UMEM.
     Outside(usize),
     /// This entry is none that a kernel puts there.

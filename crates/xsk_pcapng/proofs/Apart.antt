@@ -1,10 +1,10 @@
 -- Packets that stand in order and apart in a text, and those of one port among them.
-use Rattle.std.proofs.Common.{◌≡◌, ℕ, ◌+◌, ◌≤◌, Bool, true, false, List, [], ◌∷◌, ◌++◌, map, refl, ap, arith, inl, inr}
+use Rattle.std.proofs.Common.{◌≡◌, ℕ, ◌+◌, ◌≤◌, Bool, true, false, List, [], ◌∷◌, map, refl, ap, arith, inl, inr}
 use Rattle.std.specs.Prelude.{◌==◌, All, slice_get, Some, drop, eqb}
 use Rattle.std.specs.List.{filter}
 use Rattle.std.proofs.lemmas.Bool.{cases_Bool, ne_eqb}
 use Rattle.std.proofs.lemmas.List.Elements.{All-map, All-filter}
-use Rattle.xsk_umem.specs.Span.{at_span, IsWithin, AreFrom, AreInText, end_of}
+use Rattle.xsk_umem.specs.Span.{at_span, IsWithin, AreFrom, AreInText}
 use Rattle.xsk_umem.specs.declared.packet_list.Span.{Span}
 use Rattle.xsk_pcapng.specs.declared.reading.Found.{Found}
 use Rattle.xsk_pcapng.specs.Blocks.{packets_at}

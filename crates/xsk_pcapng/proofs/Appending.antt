@@ -7,7 +7,7 @@ use Rattle.std.proofs.lemmas.List.Folds.{concat-append}
 use Rattle.byteorder.specs.Endian.{little_bytes}
 use Rattle.xsk_umem.specs.PacketList.{PacketList}
 use Rattle.xsk_pcapng.specs.Blocks.{padded}
-use Rattle.xsk_pcapng.specs.Written.{section_block, written, block_bytes, padding, interface_block, packet_block, list_blocks, lists_blocks, packets_of, all_packets}
+use Rattle.xsk_pcapng.specs.Written.{section_block, written, block_bytes, padding, interface_block, packet_block, list_blocks, lists_blocks, packets_of, size_of_blocks, all_packets}
 use Rattle.xsk_umem.proofs.Going.{first_left}
 
 -- ---- interfaces
@@ -27,17 +27,24 @@ list-next text interface number i packets packet e =
     ∙ ap (λ (j : ℕ). text ++ (packet_block interface (number + i) packet ++ concat (list_blocks interface j (drop (i + 1) packets)))) k
     ∙ sym (append_assoc text (packet_block interface (number + i) packet) (concat (list_blocks interface (number + (i + 1)) (drop (i + 1) packets))))
 
--- the room that packets take at most
-abbrev pub room_of : List (List ℕ) → ℕ
-room_of packets = 35 * length packets + length (concat packets)
+-- ---- the bytes of blocks
 
-pub room_of-next : (packets : List (List ℕ)) (i : ℕ) (packet : List ℕ) → slice_get packets i ≡ Some packet → room_of (drop i packets) ≡ 35 + length packet + room_of (drop (i + 1) packets)
-room_of-next packets i packet e =
-    let is = first_left packets i packet e in
-    omega (arith, ap length is, ap (λ (ps : List (List ℕ)). length (concat ps)) is, length-append packet (concat (drop (i + 1) packets)))
+pub padded_above : (n : ℕ) → n ≤ padded n
+padded_above n = omega arith
 
-pub room_of-append : (xs ys : List (List ℕ)) → room_of (xs ++ ys) ≡ room_of xs + room_of ys
-room_of-append xs ys = omega (arith, length-append xs ys, ap length (concat-append xs ys), length-append (concat xs) (concat ys))
+pub padded_few : (n : ℕ) → padded n ≤ n + 3
+padded_few n = omega arith
+
+pub size-next : (packets : List (List ℕ)) (i : ℕ) (packet : List ℕ) → slice_get packets i ≡ Some packet → size_of_blocks (drop i packets) ≡ 32 + padded (length packet) + size_of_blocks (drop (i + 1) packets)
+size-next packets i packet e = ap size_of_blocks (first_left packets i packet e)
+
+pub size-append : (xs ys : List (List ℕ)) → size_of_blocks (xs ++ ys) ≡ size_of_blocks xs + size_of_blocks ys
+size-append [] ys = omega arith
+size-append (x ∷ xs) ys = omega (arith, size-append xs ys)
+
+pub size-few : (xs : List (List ℕ)) → size_of_blocks xs ≤ 35 * length xs + length (concat xs)
+size-few [] = omega arith
+size-few (x ∷ xs) = omega (arith, size-few xs, padded_few (length x), length-append x (concat xs))
 
 -- ---- all lists
 
@@ -68,12 +75,6 @@ length-interfaces (suc n) = omega (arith, length-append interface_block (concat 
 
 pub length-block : (kind : ℕ) (body : List ℕ) → length (block_bytes kind body) ≡ 12 + length body
 length-block kind body = omega (arith, length-append body (little_bytes 4 (12 + length body)))
-
-pub padded_above : (n : ℕ) → n ≤ padded n
-padded_above n = omega arith
-
-pub padded_few : (n : ℕ) → padded n ≤ n + 3
-padded_few n = omega arith
 
 abbrev pub body_of : ℕ → ℕ → List ℕ → List ℕ
 body_of interface k packet =

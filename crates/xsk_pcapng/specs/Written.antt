@@ -49,6 +49,11 @@ written_blocks lists = section_block ∷ (replicate (length lists) interface_blo
 abbrev pub written : List (List (List ℕ)) → List ℕ
 written lists = concat (written_blocks lists)
 
+-- the bytes of packets' blocks
+abbrev pub size_of_blocks : List (List ℕ) → ℕ
+size_of_blocks [] = 0
+size_of_blocks (packet ∷ packets) = 32 + padded (length packet) + size_of_blocks packets
+
 -- the packets of lists
 abbrev pub packets_of : List PacketList → List (List (List ℕ))
 packets_of lists = map (λ l. l.packets) lists

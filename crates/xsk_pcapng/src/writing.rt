@@ -3,7 +3,7 @@ ghost use Rattle.std.specs.Prelude.{◌≡◌, ◌+◌, ◌-◌, ◌*◌, ◌/�
 ghost use Rattle.std.specs.List.{concat, AllByRecursion};
 ghost use Rattle.byteorder.specs.Endian.{little_bytes};
 ghost use Rattle.xsk_pcapng.specs.Blocks.{padded};
-ghost use Rattle.xsk_pcapng.specs.Written.{written, packets_of, section_block, interface_block, packet_block, list_blocks, lists_blocks, padding, all_packets, IsShort, IsWritable};
+ghost use Rattle.xsk_pcapng.specs.Written.{written, packets_of, size_of_blocks, section_block, interface_block, packet_block, list_blocks, lists_blocks, padding, all_packets, IsShort, IsWritable};
 
 use byteorder::{ByteOrder, LittleEndian};
 use std::alloc::Global;
@@ -54,15 +54,28 @@ pub fn write_over(text: Vec<u8>, lists: &[PacketList]) -> Result<Vec<u8>, OutOfM
     Ok(text)
 }
 
-/// A room in which a file of these lists finds place: it counts the most padding.
+/// The bytes of a file of these lists.
 fn size_of_file(lists: &[PacketList]) -> usize
     requires { IsWritable (packets_of lists.now) }
-    ensures { 28 + 20 * length lists.now + 35 * length (all_packets (packets_of lists.now)) + length (concat (all_packets (packets_of lists.now))) ≤ result }
+    ensures { result ≡ 28 + 20 * length lists.now + size_of_blocks (all_packets (packets_of lists.now)) }
 {
     let mut size = SECTION + INTERFACE * lists.len();
     for i in 0..lists.len() {
-        let list = &lists[i];
-        size += (PACKET + 3) * list.len() as usize + list.bytes() as usize;
+        size += size_of_list(&lists[i]);
+    }
+    size
+}
+
+/// The bytes of the blocks of a list's packets.
+fn size_of_list(list: &PacketList) -> usize
+    requires short { AllByRecursion IsShort list.now.packets }
+    requires few { size_of_blocks list.now.packets < 2 ^ 32 }
+    ensures { result ≡ size_of_blocks list.now.packets }
+{
+    let mut size = 0;
+    for i in 0..list.len() {
+        let len = list.get(i).len();
+        size += PACKET + len + padding_of(len);
     }
     size
 }
@@ -81,7 +94,7 @@ fn append_interfaces(text: &mut Vec<u8>, count: usize)
 /// Appends the packets of all lists in room that is there, those of list `i` as interface `i`'s.
 fn append_lists(text: &mut Vec<u8>, lists: &[PacketList])
     requires writable { IsWritable (packets_of lists.now) }
-    requires room { length text.old.items + 35 * length (all_packets (packets_of lists.now)) + length (concat (all_packets (packets_of lists.now))) ≤ vec_capacity text.old }
+    requires room { length text.old.items + size_of_blocks (all_packets (packets_of lists.now)) ≤ vec_capacity text.old }
     ensures { text.new.items ≡ text.old.items ++ concat (lists_blocks 0 0 (packets_of lists.now)) }
 {
     let mut number = 0;
@@ -96,9 +109,9 @@ fn append_lists(text: &mut Vec<u8>, lists: &[PacketList])
 fn append_packets(text: &mut Vec<u8>, interface: u32, number: u32, list: &PacketList)
     requires short { AllByRecursion IsShort list.now.packets }
     requires numbers { number + length list.now.packets < 2 ^ 32 }
-    requires room { length text.old.items + 35 * length list.now.packets + length (concat list.now.packets) ≤ vec_capacity text.old }
+    requires room { length text.old.items + size_of_blocks list.now.packets ≤ vec_capacity text.old }
     ensures text { text.new.items ≡ text.old.items ++ concat (list_blocks interface number list.now.packets) }
-    ensures room { length text.new.items ≤ length text.old.items + 35 * length list.now.packets + length (concat list.now.packets) }
+    ensures room { length text.new.items ≡ length text.old.items + size_of_blocks list.now.packets }
     ensures capacity { vec_capacity text.old ≤ vec_capacity text.new }
 {
     for i in 0..list.len() {
@@ -109,9 +122,9 @@ fn append_packets(text: &mut Vec<u8>, interface: u32, number: u32, list: &Packet
 /// Appends one packet in room that is there.
 fn append_packet(text: &mut Vec<u8>, interface: u32, number: u32, packet: &[u8])
     requires short { IsShort packet.now }
-    requires room { length text.old.items + 35 + length packet.now ≤ vec_capacity text.old }
+    requires room { length text.old.items + 32 + padded (length packet.now) ≤ vec_capacity text.old }
     ensures text { text.new.items ≡ text.old.items ++ packet_block interface number packet.now }
-    ensures room { length text.new.items ≤ length text.old.items + 35 + length packet.now }
+    ensures room { length text.new.items ≡ length text.old.items + 32 + padded (length packet.now) }
     ensures capacity { vec_capacity text.old ≤ vec_capacity text.new }
 {
     let len = packet.len();

@@ -1,6 +1,7 @@
 use Rattle.std.proofs.Common.{refl}
 use Rattle.xsk_model.specs.declared.call.Ring.TheVariants.{Rx}
 use Rattle.xsk_judge.proofs.Coming.{come_step, come_stop}
+use Rattle.xsk_judge.proofs.Refusals.{stops_at}
 use Rattle.xsk_judge.proofs.marks.receive.Goals as goal
 
 pub loop-i-preserved : goal.loop-i-preserved
@@ -10,7 +11,9 @@ loop-i-preserved c =
 
 pub returns-in-Err-clause-denied : goal.returns-in-Err-clause-denied
 returns-in-Err-clause-denied c = (
-  c.in-Err.ensures.denied.0,
   come_stop c.args.setting.now (Rx c.args.socket) c.args.first c.args.line c.args.at c.args.frames.now c.loop-i.frames c.args.entries.now c.loop-i.i
-      c.loop-i-test.true c.loop-i.invariant.0 c.in-Err.ensures.denied.1,
+      c.loop-i-test.true c.loop-i.invariant.0 c.in-Err.ensures.denied.0,
+  λ strays.
+      stops_at c.args.setting.now (Rx c.args.socket) c.args.first c.args.line c.args.at c.args.skipped strays c.args.frames.now c.loop-i.frames c.args.entries.now c.loop-i.i c.in-Err.denial
+      c.loop-i-test.true c.loop-i.invariant.0 c.loop-i.invariant.1 c.in-Err.ensures.denied.1,
 )

@@ -3,8 +3,8 @@ use Rattle.std.specs.List.{concat, AllByRecursion}
 use Rattle.std.proofs.lemmas.List.{length-append}
 use Rattle.std.proofs.lemmas.Option.{slice_get_read}
 use Rattle.xsk_pcap.proofs.Writing.{AllByRecursion-last}
-use Rattle.xsk_pcapng.specs.Written.{lists_blocks, packets_of, IsShort}
-use Rattle.xsk_pcapng.proofs.Appending.{all_from, all_from-next, lists-next, room_of-append, All-first}
+use Rattle.xsk_pcapng.specs.Written.{lists_blocks, packets_of, size_of_blocks, IsShort}
+use Rattle.xsk_pcapng.proofs.Appending.{all_from, all_from-next, lists-next, size-append, All-first}
 use Rattle.xsk_pcapng.proofs.writing.append_lists.Goals as goal
 
 pub append_packets-requires-clause-short : goal.append_packets-requires-clause-short
@@ -17,7 +17,7 @@ pub append_packets-requires-clause-room : goal.append_packets-requires-clause-ro
 append_packets-requires-clause-room c =
     let list = c.index-lists-i.result in
     let next = all_from-next c.args.lists.now c.loop-i.i list (slice_get_read c.args.lists.now (length c.args.lists.now) c.loop-i.i list refl (omega (arith, c.loop-i-test.true, c.loop-i.auto.i-end)) c.index-lists-i.is) in
-    omega (arith, ap length next, ap (λ ps. length (concat ps)) next, room_of-append list.packets (all_from c.args.lists.now (c.loop-i.i + 1)), c.loop-i.invariant.room)
+    omega (arith, ap size_of_blocks next, size-append list.packets (all_from c.args.lists.now (c.loop-i.i + 1)), c.loop-i.invariant.room)
 
 pub loop-i-preserved : goal.loop-i-preserved
 loop-i-preserved c =
@@ -36,9 +36,8 @@ loop-i-preserved c =
       number = omega (arith, count, ap length next, length-append list.packets later, c.loop-i.invariant.number);
       room = omega (
         arith,
-        ap length next,
-        ap (λ ps. length (concat ps)) next,
-        room_of-append list.packets later,
+        ap size_of_blocks next,
+        size-append list.packets later,
         c.loop-i.invariant.room,
         c.append_packets.ensures.room,
         c.append_packets.ensures.capacity,

@@ -7,7 +7,7 @@ use Rattle.xsk_model.specs.Legal.{IsLegal}
 use Rattle.xsk_model.specs.Object.{submitted}
 use Rattle.xsk_model.specs.declared.call.Call.{Call}
 use Rattle.xsk_model.proofs.AskTheorems.{asks_join}
-use Rattle.xsk_bench.proofs.play.why_not.Goals as goal
+use Rattle.xsk_bench.proofs.play.why_refused.Goals as goal
 
 pub returns-clause-items : goal.returns-clause-items
 returns-clause-items c =
