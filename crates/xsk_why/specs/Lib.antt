@@ -1,4 +1,6 @@
 pub mod Frames
+pub mod Having
+pub mod Held
 pub mod Numbered
 pub mod Rings
 pub mod Waiting

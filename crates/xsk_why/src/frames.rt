@@ -51,7 +51,11 @@ fn push_item(
 }
 
 /// Lengthens the range that is open, or ends it and begins another.
-fn push_next(text: &mut Vec<u8>, begun: Option<Range>, frame: u32) -> Result<Range, OutOfMemory>
+pub(crate) fn push_next(
+    text: &mut Vec<u8>,
+    begun: Option<Range>,
+    frame: u32,
+) -> Result<Range, OutOfMemory>
     ensures { (later : List ℕ) → IfOk result (λ range. text.new.items ++ ranges_from (Some range) later ≡ text.old.items ++ ranges_from begun (frame ∷ later)) }
 {
     if let Some(range) = begun {
@@ -71,7 +75,7 @@ fn push_next(text: &mut Vec<u8>, begun: Option<Range>, frame: u32) -> Result<Ran
 }
 
 /// Ends the range that is open, if one is.
-fn push_end(text: &mut Vec<u8>, begun: Option<Range>) -> Result<(), OutOfMemory>
+pub(crate) fn push_end(text: &mut Vec<u8>, begun: Option<Range>) -> Result<(), OutOfMemory>
     ensures { OnOk result (text.new.items ≡ text.old.items ++ ranges_from begun []) }
 {
     match begun {

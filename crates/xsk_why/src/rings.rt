@@ -11,8 +11,10 @@ use xsk_model::Ring;
 use xsk_plain::{Plain, RingCounts};
 use xsk_umem::OutOfMemory;
 
-/// Puts the lines of all rings behind a text: FILL and COMPLETION of each pair, and RX and TX of each socket.
-pub(crate) fn push_rings(text: &mut Vec<u8>, plain: &Plain) -> Result<(), OutOfMemory>
+/// Puts the lines of all rings behind a text: FILL and COMPLETION of each pair, and RX and TX of each socket. A line has the ring's
+/// size, how many items are out, how many places are held, reserved and free, and the frames of the items that are out, as ranges,
+/// the next to be peeked first. It fails for want of memory alone.
+pub fn append_rings(text: &mut Vec<u8>, plain: &Plain) -> Result<(), OutOfMemory>
     ensures { OnOk result (text.new.items ≡ text.old.items ++ rings_text plain.now.config plain.now.rings) }
 {
     push_pairs(text, plain)?;

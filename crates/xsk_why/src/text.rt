@@ -3,7 +3,8 @@ ghost use Rattle.std.specs.Prelude.{◌≡◌, ◌++◌, OnOk};
 ghost use Rattle.xsk_why.specs.Numbered.{numbered};
 ghost use Rattle.xsk_why.specs.Why.{why_text};
 
-use crate::rings::push_rings;
+use crate::held::append_callers;
+use crate::rings::append_rings;
 use crate::waits::{push_waits, waits_in};
 use itoa::Buffer;
 use std::alloc::Global;
@@ -13,14 +14,15 @@ use xsk_umem::OutOfMemory;
 /// Puts behind a text what is told of an object after its calls, line by line.
 ///
 /// First what each caller waits for: `waits ` and the journal's line, without its round, of each call since the last one that
-/// changed something, each once, by callers. Then for each ring its size, how many items are out, and how many places are
-/// held, reserved and free, and the frames of the items that are out, as ranges, the next to be peeked first. It takes time of the log's length, and fails for want of memory alone.
+/// changed something, each once, by callers. Then the lines of all rings, as `append_rings` has them, and those of all callers with
+/// their frames, as `append_callers` has them. It takes time of the log's length, and fails for want of memory alone.
 pub fn append_why(alloc: Global, text: &mut Vec<u8>, plain: &Plain) -> Result<(), OutOfMemory>
     ensures { OnOk result (text.new.items ≡ text.old.items ++ why_text plain.now.config plain.now.rings plain.now.log) }
 {
     let waits = waits_in(alloc, plain)?;
     push_waits(text, plain.config().callers(), waits.as_slice())?;
-    push_rings(text, plain)
+    append_rings(text, plain)?;
+    append_callers(alloc, text, plain)
 }
 
 pub(crate) fn push_word(text: &mut Vec<u8>, word: &str) -> Result<(), OutOfMemory>

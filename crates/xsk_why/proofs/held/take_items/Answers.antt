@@ -1,0 +1,24 @@
+use Rattle.std.proofs.Common.{◌+◌, ◌++◌, ◌<◌, length, drop, sym, ap, ◌∙◌, arith, append-nil}
+use Rattle.xsk_model.specs.Numbers.{numbers}
+use Rattle.xsk_log.specs.Items.{next_items}
+use Rattle.xsk_log.specs.Left.{left_of}
+use Rattle.xsk_why.specs.Having.{all_by}
+use Rattle.xsk_why.proofs.Fronts.{front_of}
+use Rattle.xsk_why.proofs.Having.{take_next}
+use Rattle.xsk_why.proofs.Noting.{drop_end}
+use Rattle.xsk_why.proofs.held.take_items.Goals as goal
+
+pub loop-i-preserved : goal.loop-i-preserved
+loop-i-preserved c =
+    let l = c.loop-i in
+    let items = next_items (left_of c.args.lines.now) in
+    let within : l.i < length items = omega (arith, c.loop-i-test.true, c.items-i-end.ensures) in
+    let front = front_of items l.i c.frame.result within c.frame.ensures in
+    take_next c.args.who c.frame.result (numbers (drop (l.i + 1) items)) _ _ c.in_ok-take_frame.ensures ∙ ap (λ ns. l.held.items ++ all_by c.args.who ns) (sym front) ∙ l.invariant
+
+pub returns : goal.returns
+returns c =
+    let l = c.loop-i in
+    let items = next_items (left_of c.args.lines.now) in
+    let none = drop_end items l.i (omega (arith, c.loop-i-test.false, c.items-i-end.ensures)) in
+    sym (append-nil l.held.items) ∙ sym (ap (λ xs. l.held.items ++ all_by c.args.who (numbers xs)) none) ∙ l.invariant
