@@ -83,7 +83,7 @@ use Rattle.xsk_stats.specs.Counters.{counters_text}
 use Rattle.xsk_turns.specs.declared.disposal.DriverCounters.{DriverCounters}
 use Rattle.xsk_cli.specs.Steps.{FailsRunning, IsExplained, IsStallText, lists_in, sim_failure}
 use Rattle.xsk_cli.specs.declared.failure.RunFailure.{RunFailure}
-use Rattle.xsk_cli.specs.declared.failure.RunFailure.TheVariants.{BadCapture as Bad, TooMuch as Excessive, Stalled as Stalls, Explained, OutOfMemory as NoMemory, NotLegal as Breaks, BadPcapng as BadFile}
+use Rattle.xsk_cli.specs.declared.failure.RunFailure.TheVariants.{BadCapture as Bad, TooMuch as Excessive, Stalled as Stalls, Explained, OutOfMemory as NoMemory, NotLegal as Breaks, Reasoned, BadPcapng as BadFile}
 use Rattle.xsk_cli.specs.declared.words.Telling.{Telling}
 use Rattle.xsk_cli.proofs.Going.{bounced_goes_back, classes_are, expected_goes_on, are_exact_by, packets_there}
 use Rattle.xsk_cli.proofs.Judging.{limits_of}
@@ -444,4 +444,5 @@ module _ {F : Type 0} (g : Shared F (Bor (List ℕ) × (ℕ × Unit {0})) Verdic
   explained_under after telling round engine counters (Bad port cause) on is = absurd is
   explained_under after telling round engine counters (Excessive excess) on is = absurd is
   explained_under after telling round engine counters (Breaks line) on is = absurd is
+  explained_under after telling round engine counters (Reasoned line text) on is = absurd is
   explained_under after telling round engine counters (BadFile cause) on is = absurd is
