@@ -1,5 +1,5 @@
 -- Lines, one behind the other.
-use Rattle.std.proofs.Common.{◌≡◌, ℕ, ◌+◌, ◌≤◌, Option, None, Some, List, [], ◌∷◌, ◌++◌, length, take, drop, refl, sym, ap, ◌∙◌, arith, length-append, append_assoc}
+use Rattle.std.proofs.Common.{◌≡◌, ℕ, ◌+◌, ◌≤◌, Option, Some, List, [], ◌∷◌, ◌++◌, length, take, drop, sym, ap, ◌∙◌, arith}
 use Rattle.std.proofs.Math.Seq.{take-append_seam, drop-append-add}
 use Rattle.std.proofs.lemmas.List.{drop-drop, append-nil}
 use Rattle.std.proofs.lemmas.Grind.{flat_map-append}
@@ -14,13 +14,6 @@ taken pairs who [] later before line h =
     let no : ⊥ = cc h.0 in
     absurd no
 taken pairs who (e ∷ es) later before line h = (e, ap (λ (l : List Entry). e ∷ l) (sym h.1), h.2)
-
--- none was
-pub none_taken : (pairs : ℕ) (es later : List Entry) (before line : List ℕ) → TakesLine pairs es later before line None → es ≡ []
-none_taken pairs [] later before line h = refl
-none_taken pairs (e ∷ es) later before line h =
-    let no : ⊥ = cc h.0 in
-    absurd no
 
 -- whatever is taken, one entry less is left
 pub past_one : (pairs : ℕ) (told : Option ℕ) (es later : List Entry) (before line : List ℕ) → TakesLine pairs es later before line told → 1 ≤ length es

@@ -1,5 +1,5 @@
 -- The journal's lines, from a call on.
-use Rattle.std.specs.Prelude.{◌≡◌, ℕ, ◌+◌, ◌<◌, ◌⊎◌, List, [], ◌∷◌, ◌++◌, length, drop, min}
+use Rattle.std.specs.Prelude.{◌≡◌, ℕ, ◌+◌, ◌<◌, List, [], ◌∷◌, ◌++◌, length, drop, min}
 use Rattle.std.specs.List.{flat_map}
 use Rattle.xsk_model.specs.Entry.{Entry}
 use Rattle.xsk_log.specs.Line.{line_of}

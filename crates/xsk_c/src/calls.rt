@@ -2,7 +2,6 @@
 ghost use Rattle.std.specs.Prelude.{◌≡◌, [], IfErr, IfOk};
 ghost use Rattle.xsk_model.specs.Asks.{HasAnswered, HasAsked, joined_call};
 ghost use Rattle.xsk_c.specs.Calls.{Called, outcome_of, geometry_of, Makes, Submits, Peeks};
-ghost use Rattle.xsk_c.specs.Items.{call_in};
 ghost use Rattle.xsk_c.specs.Live.{OnCall, OnRing};
 ghost use Rattle.xsk_c.specs.Purse.{Writes};
 ghost use Rattle.xsk_c.specs.Rounds.{HasRound, HasRounds};

@@ -3,7 +3,7 @@ ghost use Rattle.std.specs.Prelude.{◌≡◌, true, false};
 ghost use Rattle.xsk_c.specs.Calls.{Makes, Submits, Peeks, geometry_of};
 ghost use Rattle.xsk_c.specs.Journal.{TellsLog};
 ghost use Rattle.xsk_c.specs.Live.{OnLive, OnCall, OnRing};
-ghost use Rattle.xsk_c.specs.Opened.{Opens, IsOpened};
+ghost use Rattle.xsk_c.specs.Opened.{Opens};
 ghost use Rattle.xsk_c.specs.Purse.{ReadsFrom, Writes, frame_at};
 ghost use Rattle.xsk_c.specs.Reading.{TellsCount, TellsPacket, TellsStatistics};
 ghost use Rattle.xsk_c.specs.Rounds.{HasRound, HasRounds};

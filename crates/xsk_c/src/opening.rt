@@ -1,5 +1,5 @@
 //! A bench is opened over captures.
-ghost use Rattle.std.specs.Prelude.{◌≡◌, IfErr, IfOk, None, Some, List, [], length, replicate};
+ghost use Rattle.std.specs.Prelude.{◌≡◌, IfErr, IfOk, None, Some, List, [], length};
 ghost use Rattle.xsk_model.specs.Opening.{AreFrames};
 ghost use Rattle.xsk_machine.specs.Workers.{setting_with};
 ghost use Rattle.xsk_prog.specs.declared.rule.Verdict.{Verdict as AVerdict};
@@ -7,7 +7,7 @@ ghost use Rattle.xsk_socket.specs.Layout.{fault_of};
 ghost use Rattle.xsk_socket.specs.Regular.{regular_of};
 ghost use Rattle.xsk_turns.specs.Owned.{IsSteady};
 ghost use Rattle.xsk_bench.specs.Played.{HasPlayed};
-ghost use Rattle.xsk_c.specs.Captures.{AreRead, HaveNoTraffic};
+ghost use Rattle.xsk_c.specs.Captures.{AreRead, HaveNoTraffic, IsMemory};
 ghost use Rattle.xsk_c.specs.Opened.{IsLayoutRefused, IsOpened, IsWhyNot, layout_in, refusal_number, wire_in};
 
 use crate::answers::{BAD_CAPTURES, NO_MEMORY, number_of_capture, number_of_fault};
@@ -198,7 +198,8 @@ fn bench_over(
     room: Amount,
 ) -> Result<Bench<'static>, Refusal>
     requires frames { AreFrames traffic.now.config.geometry frames.items }
-    ensures { IfOk result (λ bench. (verdicts : List (List AVerdict)) × HasPlayed (setting_with traffic.now.config wire traffic.now.packets verdicts) frames.items [] bench) }
+    ensures refused { IfErr result IsMemory }
+    ensures opened { IfOk result (λ bench. (verdicts : List (List AVerdict)) × HasPlayed (setting_with traffic.now.config wire traffic.now.packets verdicts) frames.items [] bench) }
 {
     let sockets = sockets.clamp(1, 64);
     let rule = Rule::Redirect { sockets };

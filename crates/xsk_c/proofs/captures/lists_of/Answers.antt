@@ -1,7 +1,7 @@
-use Rattle.std.proofs.Common.{◌≡◌, ℕ, ◌+◌, ◌≤◌, List, [], ◌∷◌, ◌++◌, inl, rules, length, drop, get_or, sym, subst, arith}
-use Rattle.std.proofs.lemmas.List.{append-nil, drop_all, get_or_default}
+use Rattle.std.proofs.Common.{◌≡◌, ◌+◌, List, [], ◌∷◌, ◌++◌, inl, rules, drop, get_or, sym, subst, arith}
+use Rattle.std.proofs.lemmas.List.{drop_all, get_or_default}
 use Rattle.xsk_umem.specs.PacketList.{PacketList}
-use Rattle.xsk_c.specs.Captures.{AreRead, AreRefused}
+use Rattle.xsk_c.specs.Captures.{AreRefused}
 use Rattle.xsk_c.proofs.OneMore.{Goes, goes_on, stops_on, stops_here, goes_here}
 use Rattle.xsk_c.proofs.Places.{next_at}
 use Rattle.xsk_c.proofs.captures.lists_of.Goals as goal

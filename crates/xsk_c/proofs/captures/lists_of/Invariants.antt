@@ -1,4 +1,4 @@
-use Rattle.std.proofs.Common.{◌≡◌, All, drop}
+use Rattle.std.proofs.Common.{All, drop}
 use Rattle.xsk_machine.specs.Acts.{HasShortPackets}
 use Rattle.xsk_c.proofs.OneMore.{Goes, Stops}
 use Rattle.xsk_c.proofs.captures.lists_of.Given as goal

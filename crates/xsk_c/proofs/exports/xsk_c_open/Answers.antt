@@ -1,4 +1,4 @@
-use Rattle.std.proofs.Common.{refl, sym, ap, subst, ◌∙◌, arith}
+use Rattle.std.proofs.Common.{inl, refl, sym, ap, subst, ◌∙◌, arith}
 use Rattle.xsk_c.specs.Opened.{IsOpened}
 use Rattle.xsk_c.specs.declared.handle.Handle.{Handle}
 use Rattle.xsk_c.specs.declared.opening.Refusal.TheVariants as refusal

@@ -3,7 +3,7 @@ use Rattle.xsk_model.specs.Entry.{Entry}
 use Rattle.xsk_log.specs.Left.{left_of}
 use Rattle.xsk_log.specs.Line.{line_of}
 use Rattle.xsk_c.specs.Journal.{lines_of}
-use Rattle.xsk_c.proofs.Behind.{taken, none_taken, one_more, put_behind}
+use Rattle.xsk_c.proofs.Behind.{taken, one_more, put_behind}
 use Rattle.xsk_c.proofs.journal.put_lines.Goals as goal
 
 pub loop-call-preserved : goal.loop-call-preserved

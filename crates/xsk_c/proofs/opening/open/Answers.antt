@@ -13,7 +13,7 @@ returns-clause-fault c why is = cc (c.in_ok-config.ensures.fault why (ap fault_o
 pub returns-clause-opened : goal.returns-clause-opened
 returns-clause-opened c =
     let traffic = c.in_ok-traffic.traffic.now in
-    let made = c.in_ok-bench.ensures in
+    let made = c.in_ok-bench.ensures.opened in
     record {
       setting = setting_with traffic.config c.wire_of-wire.result traffic.packets made.0;
       frames = c.in_ok-config.frames.items;

@@ -8,8 +8,7 @@ use Rattle.xsk_c.proofs.state.State.serve.Goals as goal
 pub returns-in-Err-Illegal-clause-called : goal.returns-in-Err-Illegal-clause-called
 returns-in-Err-Illegal-clause-called c =
     let engine = c.args.self.now.bench.checked in
-    let call = joined_call c.args.ask c.args.self.now.items in
-    (
+    let call = joined_call c.args.ask c.args.self.now.items in (
       λ s frames h played. (c.in-Err-Illegal.ensures.served s frames h played).2,
       inl (
         c.in-Err-Illegal.why,
