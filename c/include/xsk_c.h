@@ -126,7 +126,7 @@ struct xsk_c_statistics {
 
 /* Opens a bench. The captures stand one behind the other in text, and are copied; ends[i] is where that of port i ends. */
 uint32_t xsk_c_open(struct xsk_c *, const struct xsk_c_layout *, const uint8_t *text, size_t text_len, const uint64_t *ends, size_t ends_len);
-/* Lets a bench go. */
+/* Lets a bench go. The memory of the packets that its ports were to receive is not given back. */
 uint32_t xsk_c_close(struct xsk_c *);
 
 /* Makes a call that moves no items: a Reserve of places of FILL or TX, a Release of places of RX or COMPLETION that were peeked, a Look at
