@@ -189,9 +189,9 @@ static uint32_t submit(struct side *s, uint32_t n, bool copies)
 			continue;
 		if (s->holds)
 			guard(u, chunk_number(u, e.addr), true);
-		memcpy(u->data + (size_t)i * chunk, u->area + e.addr, e.len);
+		xsk_c_write(&u->bench, items[i].addr, (const uint8_t *)u->area + e.addr, e.len);
 	}
-	return xsk_c_submit(&u->bench, s->app, s->kind, s->number, items, n, u->data, (size_t)n * chunk);
+	return xsk_c_submit(&u->bench, s->app, s->kind, s->number, items, n);
 }
 
 static void told_invalid(struct side *s, const struct xdp_desc *e)
@@ -267,6 +267,8 @@ static bool submit_part(struct side *s, uint32_t from, uint32_t n)
 		answer = XSK_C_FRAMES;
 	else
 		answer = s->holds ? (uint32_t)XSK_C_DONE : submit(s, n, culprit < 0);
+	if (culprit >= 0 && answer == XSK_C_ITEMS) /* the model finds no frame for it */
+		answer = XSK_C_FRAMES;
 	if (legal(s, "submit", n, answer, culprit)) {
 		for (i = 0; i < n && s->holds; i++)
 			if (chunk_number(u, entry_at(s, from + i).addr) != NO_FRAME)
@@ -332,7 +334,7 @@ void xsk_model_look(const struct xsk_ring_prod *r)
 
 /* ---- RX and COMPLETION */
 
-static void came(struct side *s, uint32_t index, const struct xsk_c_desc *item, const uint8_t *data)
+static void came(struct side *s, uint32_t index, const struct xsk_c_desc *item)
 {
 	struct xsk_umem *u = s->umem;
 	uint64_t address = program_address(u, item->addr);
@@ -344,7 +346,7 @@ static void came(struct side *s, uint32_t index, const struct xsk_c_desc *item, 
 	guard(u, number, true);
 	set_entry(s, index, (struct xdp_desc){.addr = address, .len = item->len, .options = item->options});
 	if (s->kind == XSK_C_RX) {
-		memcpy(u->area + address, data, item->len);
+		xsk_c_read(&u->bench, item->addr, (uint8_t *)u->area + address, item->len);
 		s->packets += !(item->options & XDP_PKT_CONTD);
 	}
 }
@@ -358,11 +360,11 @@ void fetch(struct side *s, uint32_t wanted)
 		uint32_t i, count = 0, n = min(min(wanted, XSK_C_MOST), s->size - (s->producer - s->consumer)), answer;
 		if (!n)
 			return;
-		answer = xsk_c_peek(&u->bench, s->app, s->kind, s->number, items, n, u->data, (size_t)n * u->layout.chunk, &count);
+		answer = xsk_c_peek(&u->bench, s->app, s->kind, s->number, items, n, &count);
 		if (answer == XSK_C_EMPTY || !legal(s, "peek", n, answer, -1))
 			return;
 		for (i = 0; i < count; i++)
-			came(s, s->producer + i, &items[i], u->data + (size_t)i * u->layout.chunk);
+			came(s, s->producer + i, &items[i]);
 		s->producer += count;
 		s->room += count;
 		acted(u);

@@ -223,12 +223,10 @@ static void open_bench(struct xsk_umem *u)
 static void set_up_frames(struct xsk_umem *u)
 {
 	uint32_t frames = u->layout.frames, per_app = frames / u->apps, frame, app;
-	u->data = malloc((size_t)XSK_C_MOST * u->layout.chunk);
 	u->chunk_of = malloc(frames * sizeof *u->chunk_of);
 	u->stock = malloc(frames * sizeof *u->stock);
-	if (!u->data || !u->chunk_of || !u->stock)
+	if (!u->chunk_of || !u->stock)
 		die("out of memory");
-	memset(u->data, 0, (size_t)XSK_C_MOST * u->layout.chunk);
 	for (frame = frames; frame--;) { /* the lowest lies on top */
 		uint32_t pair = frame / u->pool;
 		app = pair / u->layout.queues / 2 * u->layout.queues + pair % u->layout.queues;
@@ -258,8 +256,7 @@ static void hand_over(struct xsk_umem *u)
 				wanted = XSK_C_MOST;
 			if (!wanted)
 				continue;
-			answer = xsk_c_peek(
-				&u->bench, app, XSK_C_RX, socket, items, wanted, u->data, (size_t)wanted * u->layout.chunk, &count);
+			answer = xsk_c_peek(&u->bench, app, XSK_C_RX, socket, items, wanted, &count);
 			if (answer == XSK_C_EMPTY)
 				continue;
 			if (answer != XSK_C_DONE || xsk_c_release(&u->bench, app, XSK_C_RX, socket, count) != XSK_C_DONE)

@@ -91,7 +91,6 @@ struct xsk_umem {
 	uint32_t *chunk_of; /* by the model's frames: the program's chunk, or NO_FRAME */
 	uint32_t *stock;    /* frames of no chunk, application by application */
 	uint32_t stock_count[MOST_PAIRS / 2];
-	uint8_t *data;	/* of one call's items */
 	uint32_t still; /* rounds in a row that changed nothing */
 	uint64_t calls, illegal;
 	bool invalid_told;

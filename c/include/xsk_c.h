@@ -48,6 +48,16 @@ struct xsk_c_layout {
 	uint32_t sent_packets, sent_bytes; /* room for what each driver sends */
 };
 
+/* A call that moves no items. */
+struct xsk_c_asked {
+	uint32_t op;	      /* enum xsk_c_op */
+	uint32_t kind, index; /* enum xsk_c_ring or xsk_c_mark, and its number */
+	uint32_t count;	      /* places, of a Reserve and a Release */
+	uint64_t value;	      /* of a Swap */
+};
+
+enum xsk_c_op { XSK_C_RESERVE, XSK_C_RELEASE, XSK_C_LOOK, XSK_C_SWAP };
+
 /* struct xdp_desc */
 struct xsk_c_desc {
 	uint64_t addr;
@@ -67,7 +77,8 @@ enum xsk_c_answer {
 	XSK_C_NOT_LIVE,	 /* the handle isn't live: no bench is open, or it was closed */
 	XSK_C_LIVE,	 /* the handle is live, so that no other bench can be opened there */
 	XSK_C_NO_MEMORY, /* memory couldn't be had */
-	XSK_C_NO_SUCH,	 /* there is no such kind, mark, pair, class or packet, or it sent more than there was room for */
+	XSK_C_NO_SUCH,	 /* there is no such operation, kind, pair, class or packet, or it sent more than there was room for; or no
+			    application has the frame */
 	XSK_C_SHORT,	 /* the bytes or the room that were handed in are too few */
 	XSK_C_FULL,	 /* a Reserve found fewer places free: the call was made, and answered so */
 	XSK_C_EMPTY,	 /* a Peek found nothing: the call was made, and answered so */
@@ -78,8 +89,9 @@ enum xsk_c_answer {
 	XSK_C_NOT_ITS_OWN,    /* it isn't the application's own */
 	XSK_C_COUNT,	      /* the number isn't from 1 to 32, or none that the mark can have */
 	XSK_C_PLACES,	      /* fewer places are reserved, or fewer items were peeked */
-	XSK_C_ITEMS,	      /* an item may not stand in the ring: on FILL an address alone, without length and options */
-	XSK_C_FRAMES,	      /* the application doesn't have these frames */
+	XSK_C_ITEMS,	      /* an item may not stand in the ring: on FILL an address alone, without length and options; and no
+				 application has its frame, or an item before it took that */
+	XSK_C_FRAMES,	      /* another application has these frames */
 	XSK_C_PACKETS,
 	XSK_C_ENDED,
 	XSK_C_NOT_NOW, /* the mark may not be set to this number now: in order it stands behind XSK_C_NOT_ITS_OWN */
@@ -114,25 +126,22 @@ struct xsk_c_statistics {
 
 /* Opens a bench. The captures stand one behind the other in text, and are copied; ends[i] is where that of port i ends. */
 uint32_t xsk_c_open(struct xsk_c *, const struct xsk_c_layout *, const uint8_t *text, size_t text_len, const uint64_t *ends, size_t ends_len);
-/* Lets a bench go. */
+/* Lets a bench go. The memory of the packets that its ports were to receive is not given back. */
 uint32_t xsk_c_close(struct xsk_c *);
 
-/* Asks for places of FILL or TX. Where the answer is XSK_C_FULL, free tells how many there are. */
-uint32_t xsk_c_reserve(struct xsk_c *, uint32_t app, uint32_t kind, uint32_t ring, uint32_t count, uint32_t *free);
-/* Submits items. On TX the bytes of item i begin at data[i * chunk], desc.len of them, and are written to its frame where they fit the
- * chunk from its address on; data has descs_len * chunk bytes there, and else the answer is XSK_C_SHORT. On FILL data is not read. */
-uint32_t xsk_c_submit(struct xsk_c *, uint32_t app, uint32_t kind, uint32_t ring, const struct xsk_c_desc *descs, size_t descs_len,
-		      const uint8_t *data, size_t data_len);
-/* Takes items, at most descs_len: count tells how many, and their descriptors are written. On RX the bytes of item i are written from
- * data[i * chunk] on; data has descs_len * chunk bytes there, and else the answer is XSK_C_SHORT. On COMPLETION data is not written. */
-uint32_t xsk_c_peek(struct xsk_c *, uint32_t app, uint32_t kind, uint32_t ring, struct xsk_c_desc *descs, size_t descs_len, uint8_t *data,
-		    size_t data_len, uint32_t *count);
-/* Gives back places of RX or COMPLETION that were peeked. */
-uint32_t xsk_c_release(struct xsk_c *, uint32_t app, uint32_t kind, uint32_t ring, uint32_t count);
-/* Reads a mark. */
-uint32_t xsk_c_look(struct xsk_c *, uint32_t app, uint32_t mark, uint32_t index, uint64_t *value);
-/* Sets a mark, and tells what it was. */
-uint32_t xsk_c_swap(struct xsk_c *, uint32_t app, uint32_t mark, uint32_t index, uint64_t value, uint64_t *old);
+/* Makes a call that moves no items: a Reserve of places of FILL or TX, a Release of places of RX or COMPLETION that were peeked, a Look at
+ * a mark, or a Swap of it. told is written where a Reserve's answer is XSK_C_FULL, with how many places are free, and by a Look and a Swap
+ * with what the mark was. */
+uint32_t xsk_c_call(struct xsk_c *, uint32_t app, const struct xsk_c_asked *, uint64_t *told);
+/* Submits items, each with the frame of its address as it is then. */
+uint32_t xsk_c_submit(struct xsk_c *, uint32_t app, uint32_t kind, uint32_t ring, const struct xsk_c_desc *descs, size_t descs_len);
+/* Takes items, at most descs_len: count tells how many, and their descriptors are written. The application has their frames then. */
+uint32_t xsk_c_peek(
+	struct xsk_c *, uint32_t app, uint32_t kind, uint32_t ring, struct xsk_c_desc *descs, size_t descs_len, uint32_t *count);
+/* Writes to the frame of an address, from the address on, or copies from there, where an application has it. Where the bytes go beyond its
+ * chunk the answer is XSK_C_SHORT. What is to be sent is written before its Submit. */
+uint32_t xsk_c_write(struct xsk_c *, uint64_t addr, const uint8_t *bytes, size_t len);
+uint32_t xsk_c_read(struct xsk_c *, uint64_t addr, uint8_t *out, size_t len);
 
 /* Each driver that hasn't ended makes one call; still tells whether that changed nothing. */
 uint32_t xsk_c_round(struct xsk_c *, bool *still);
@@ -151,6 +160,35 @@ uint32_t xsk_c_packet(struct xsk_c *, uint32_t pair, uint32_t number, uint8_t *o
 uint32_t xsk_c_journal(struct xsk_c *, uint32_t from, uint8_t *out, size_t out_len, uint32_t *next, uint64_t *end);
 /* The text of an answer; len tells how long it is, also where the answer is XSK_C_SHORT. */
 uint32_t xsk_c_why(uint32_t answer, uint8_t *out, size_t out_len, uint64_t *len);
+
+/* The calls that move no items, by their names. */
+static inline uint32_t xsk_c_reserve(struct xsk_c *h, uint32_t app, uint32_t kind, uint32_t ring, uint32_t count, uint32_t *free)
+{
+	struct xsk_c_asked asked = {XSK_C_RESERVE, kind, ring, count, 0};
+	uint64_t told = *free;
+	uint32_t answer = xsk_c_call(h, app, &asked, &told);
+	*free = (uint32_t)told;
+	return answer;
+}
+
+static inline uint32_t xsk_c_release(struct xsk_c *h, uint32_t app, uint32_t kind, uint32_t ring, uint32_t count)
+{
+	struct xsk_c_asked asked = {XSK_C_RELEASE, kind, ring, count, 0};
+	uint64_t told = 0;
+	return xsk_c_call(h, app, &asked, &told);
+}
+
+static inline uint32_t xsk_c_look(struct xsk_c *h, uint32_t app, uint32_t mark, uint32_t index, uint64_t *value)
+{
+	struct xsk_c_asked asked = {XSK_C_LOOK, mark, index, 0, 0};
+	return xsk_c_call(h, app, &asked, value);
+}
+
+static inline uint32_t xsk_c_swap(struct xsk_c *h, uint32_t app, uint32_t mark, uint32_t index, uint64_t value, uint64_t *old)
+{
+	struct xsk_c_asked asked = {XSK_C_SWAP, mark, index, 0, value};
+	return xsk_c_call(h, app, &asked, old);
+}
 
 #ifdef __cplusplus
 }

@@ -199,7 +199,7 @@ static uint32_t find(struct stub *s, uint32_t app, uint32_t kind, uint32_t ring,
 	return XSK_C_DONE;
 }
 
-uint32_t xsk_c_reserve(struct xsk_c *h, uint32_t app, uint32_t kind, uint32_t ring, uint32_t count, uint32_t *free)
+static uint32_t reserve(struct xsk_c *h, uint32_t app, uint32_t kind, uint32_t ring, uint32_t count, uint64_t *free)
 {
 	struct ring *r = NULL;
 	uint32_t fault = h->live ? find(h->at, app, kind, ring, true, &r) : (uint32_t)XSK_C_NOT_LIVE;
@@ -215,8 +215,7 @@ uint32_t xsk_c_reserve(struct xsk_c *h, uint32_t app, uint32_t kind, uint32_t ri
 	return XSK_C_DONE;
 }
 
-uint32_t xsk_c_submit(
-	struct xsk_c *h, uint32_t app, uint32_t kind, uint32_t ring, const struct xsk_c_desc *d, size_t n, const uint8_t *data, size_t len)
+uint32_t xsk_c_submit(struct xsk_c *h, uint32_t app, uint32_t kind, uint32_t ring, const struct xsk_c_desc *d, size_t n)
 {
 	struct stub *s = h->at;
 	struct ring *r = NULL;
@@ -228,8 +227,6 @@ uint32_t xsk_c_submit(
 		return XSK_C_COUNT;
 	if (n > r->room)
 		return XSK_C_PLACES;
-	if (kind == XSK_C_TX && len < n * s->l.chunk)
-		return XSK_C_SHORT;
 	for (i = 0; i < n; i++) {
 		uint64_t frame = d[i].addr / s->l.chunk;
 		for (j = 0; j < i; j++)
@@ -242,16 +239,13 @@ uint32_t xsk_c_submit(
 		uint64_t frame = d[i].addr / s->l.chunk;
 		if (frame < s->l.frames)
 			s->had[frame] = 0;
-		if (kind == XSK_C_TX && frame < s->l.frames && d[i].addr % s->l.chunk + d[i].len <= s->l.chunk)
-			memcpy(s->umem + d[i].addr, data + i * s->l.chunk, d[i].len);
 		put(r, (struct entry){d[i].addr, d[i].len, d[i].options});
 		r->room--;
 	}
 	return XSK_C_DONE;
 }
 
-uint32_t xsk_c_peek(struct xsk_c *h, uint32_t app, uint32_t kind, uint32_t ring, struct xsk_c_desc *d, size_t n, uint8_t *data, size_t len,
-	uint32_t *count)
+uint32_t xsk_c_peek(struct xsk_c *h, uint32_t app, uint32_t kind, uint32_t ring, struct xsk_c_desc *d, size_t n, uint32_t *count)
 {
 	struct stub *s = h->at;
 	struct ring *r = NULL;
@@ -260,8 +254,6 @@ uint32_t xsk_c_peek(struct xsk_c *h, uint32_t app, uint32_t kind, uint32_t ring,
 		return fault;
 	if (n < 1 || n > XSK_C_MOST)
 		return XSK_C_COUNT;
-	if (kind == XSK_C_RX && len < n * s->l.chunk)
-		return XSK_C_SHORT;
 	if (!r->out)
 		return XSK_C_EMPTY;
 	for (*count = 0; *count < n && r->out; ++*count) {
@@ -270,13 +262,11 @@ uint32_t xsk_c_peek(struct xsk_c *h, uint32_t app, uint32_t kind, uint32_t ring,
 		if (e.addr / s->l.chunk < s->l.frames)
 			s->had[e.addr / s->l.chunk] = (uint8_t)(app + 1);
 		d[*count] = (struct xsk_c_desc){e.addr, e.len, e.options};
-		if (kind == XSK_C_RX)
-			memcpy(data + (size_t)*count * s->l.chunk, s->umem + e.addr, e.len);
 	}
 	return XSK_C_DONE;
 }
 
-uint32_t xsk_c_release(struct xsk_c *h, uint32_t app, uint32_t kind, uint32_t ring, uint32_t count)
+static uint32_t release(struct xsk_c *h, uint32_t app, uint32_t kind, uint32_t ring, uint32_t count)
 {
 	struct ring *r = NULL;
 	uint32_t fault = h->live ? find(h->at, app, kind, ring, false, &r) : (uint32_t)XSK_C_NOT_LIVE;
@@ -290,18 +280,44 @@ uint32_t xsk_c_release(struct xsk_c *h, uint32_t app, uint32_t kind, uint32_t ri
 	return XSK_C_DONE;
 }
 
-uint32_t xsk_c_look(struct xsk_c *h, uint32_t app, uint32_t mark, uint32_t index, uint64_t *value)
+uint32_t xsk_c_call(struct xsk_c *h, uint32_t app, const struct xsk_c_asked *asked, uint64_t *told)
 {
-	(void)app, (void)mark, (void)index;
-	*value = 0;
+	if (asked->op == XSK_C_RESERVE)
+		return reserve(h, app, asked->kind, asked->index, asked->count, told);
+	if (asked->op == XSK_C_RELEASE)
+		return release(h, app, asked->kind, asked->index, asked->count);
+	*told = 0;
 	return h->live ? XSK_C_DONE : XSK_C_NOT_LIVE;
 }
 
-uint32_t xsk_c_swap(struct xsk_c *h, uint32_t app, uint32_t mark, uint32_t index, uint64_t value, uint64_t *old)
+/* The bytes of a frame that an application has, from an address on. */
+static uint32_t frame_at(struct xsk_c *h, uint64_t addr, size_t len, uint8_t **bytes)
 {
-	(void)app, (void)mark, (void)index, (void)value;
-	*old = 0;
-	return h->live ? XSK_C_DONE : XSK_C_NOT_LIVE;
+	struct stub *s = h->at;
+	if (!h->live)
+		return XSK_C_NOT_LIVE;
+	if (addr / s->l.chunk >= s->l.frames || !s->had[addr / s->l.chunk])
+		return XSK_C_NO_SUCH;
+	*bytes = s->umem + addr;
+	return addr % s->l.chunk + len <= s->l.chunk ? XSK_C_DONE : XSK_C_SHORT;
+}
+
+uint32_t xsk_c_write(struct xsk_c *h, uint64_t addr, const uint8_t *bytes, size_t len)
+{
+	uint8_t *to = NULL;
+	uint32_t answer = frame_at(h, addr, len, &to);
+	if (answer == XSK_C_DONE)
+		memcpy(to, bytes, len);
+	return answer;
+}
+
+uint32_t xsk_c_read(struct xsk_c *h, uint64_t addr, uint8_t *out, size_t len)
+{
+	uint8_t *from = NULL;
+	uint32_t answer = frame_at(h, addr, len, &from);
+	if (answer == XSK_C_DONE)
+		memcpy(out, from, len);
+	return answer;
 }
 
 /* The driver of a pair sends one packet, or receives one; else it says so. */

@@ -11,7 +11,6 @@
 //!   about the next run: a call that fails, the most bytes that a write takes, a gate, that its writes are told, and that of its
 //!   report only is told whether it has a line that begins so.
 //! - `run WORD ..` runs the command of these words, with threads for `forward`, and `alone WORD ..` without.
-//! - `meaning WORD ..` tells what the words of `simulate` mean, and `table WORD ..` those of a smaller table of options.
 //!
 //! Empty lines and those that begin with `#` say nothing.
 #![tactic(auto)]
@@ -20,12 +19,10 @@ mod case;
 mod gate;
 mod run;
 mod show;
-mod table;
 mod text;
 
 use crate::case::Case;
 use crate::run::{run, run_alone};
-use crate::table::{meaning, meaning_by_small_table};
 use anyhow::Result;
 use std::alloc::Global;
 use std::fmt::Write;
@@ -48,8 +45,6 @@ fn answer<R: Threads + Wait + Sync>(
         "case" => begin(alloc, case, rest, told),
         "run" => run(rt, host, alloc, case, rest, told),
         "alone" => run_alone(alloc, case, rest, told),
-        "meaning" => meaning(alloc, case, rest, told),
-        "table" => meaning_by_small_table(alloc, rest, told),
         _ => set(alloc, case, name, rest, line, told),
     }
 }

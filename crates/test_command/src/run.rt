@@ -94,12 +94,6 @@ fn run_words_alone(alloc: Global, case: &Case, words: &[String], told: &mut Stri
     Ok(())
 }
 
-/// How a command ends without threads.
-pub(crate) fn ended_alone(alloc: Global, case: &Case, words: &[String]) -> Result<Status> {
-    let mut bay = bay_of(alloc, case)?;
-    Ok(alone(alloc, words, &mut bay))
-}
-
 /// The words of a line. An empty line has none.
 fn words_of(alloc: Global, line: &str) -> Result<Vec<String>, AllocError> {
     if line.is_empty() {
@@ -109,7 +103,7 @@ fn words_of(alloc: Global, line: &str) -> Result<Vec<String>, AllocError> {
 }
 
 /// The words of a line, parted by spaces: one at least, which may be empty.
-pub(crate) fn words_in(alloc: Global, line: &str) -> Result<Vec<String>, AllocError> {
+fn words_in(alloc: Global, line: &str) -> Result<Vec<String>, AllocError> {
     let mut words = Vec::new(alloc);
     for word in line.split(' ') {
         words.push(String::from_str(alloc, word)?)?;

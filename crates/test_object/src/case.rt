@@ -1,7 +1,6 @@
 //! The kinds of cases.
 use crate::descriptors::Descriptors;
 use crate::frames::Frames;
-use crate::layouts::Layouts;
 use crate::line::{Fault, Line, cut};
 use crate::locks::Locks;
 use crate::packed::Packed;
@@ -30,7 +29,6 @@ pub fn tell(alloc: Global, text: &str, told: &mut Told) {
 fn go_through(alloc: Global, kind: &str, lines: &str, told: &mut Told) {
     match kind {
         "setup" => run(Setups::new(alloc), lines, told),
-        "layout" => run(Layouts::new(alloc), lines, told),
         "descriptors" => run(Descriptors::new(alloc), lines, told),
         "lock" => run(Locks::new(alloc), lines, told),
         "frames" => run(Frames::new(alloc), lines, told),

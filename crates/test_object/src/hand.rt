@@ -16,7 +16,7 @@ pub(crate) struct Store {
 /// What is known of all frames.
 #[derive(Drop)]
 pub(crate) struct Known {
-    pub(crate) chunk: u32,
+    chunk: u32,
     /// What was last written into each frame, by number.
     seeds: Vec<u32>,
     written: u32,

@@ -1,5 +1,4 @@
 //! A run of a script from one starting count.
-use crate::drawn::drawn;
 use crate::ending;
 use crate::line::{Fault, long_in, says};
 use crate::makers::{Maker, Makers};
@@ -113,7 +112,6 @@ fn make<E: Engine, B: Board>(
         Step::Call(who, made, anew) => return call(stage, line, who, made, things, anew),
         Step::Note { who, late, meets } => note(stage, line, who, late, meets),
         Step::Count(who, mark, most) => return count(stage, line, who, mark, most),
-        Step::Drawn(seed, calls) => return drawn(stage, line, seed, calls),
         Step::Passes => passes(stage, line),
     }
     Ok(())

@@ -12,8 +12,6 @@ pub(crate) enum Step {
     Note { who: Who, late: bool, meets: bool },
     /// Sets a mark to 1, 2 and so on.
     Count(Who, Mark, u64),
-    /// Makes calls that a number tells.
-    Drawn(u64, u32),
     /// Takes each pass and gives it back.
     Passes,
 }
@@ -26,7 +24,6 @@ pub(crate) fn read(text: &str, things: &mut Vec<Thing>) -> Result<Step, Fault> {
         "passes" => Ok(Step::Passes),
         "note" => read_note(&mut line, false),
         "meet" => read_note(&mut line, true),
-        "drawn" => read_drawn(&mut line),
         "count" => read_count(&mut line),
         "anew" => read_call(&mut line, things, true),
         _ => read_call(&mut Line::new(text), things, false),
@@ -41,11 +38,6 @@ fn read_note(line: &mut Line<'_>, meets: bool) -> Result<Step, Fault> {
         _ => return Err(Fault::BadLine),
     };
     Ok(Step::Note { who, late, meets })
-}
-
-fn read_drawn(line: &mut Line<'_>) -> Result<Step, Fault> {
-    let seed = line.long()?;
-    Ok(Step::Drawn(seed, line.last_number()?))
 }
 
 fn read_count(line: &mut Line<'_>) -> Result<Step, Fault> {

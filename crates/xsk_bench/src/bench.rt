@@ -170,6 +170,14 @@ impl<'a> Bench<'a> {
         self.play.checked.config()
     }
 
+    /// The object, which tells the standing of each caller, and what stands in each ring. The first callers are the drivers, by
+    /// pair, and the applications come behind them.
+    pub fn object(&self) -> &Checked
+        ensures { result.now ≡ self.now.checked }
+    {
+        &self.play.checked
+    }
+
     /// All calls with their replies, in order: a legal history in which each driver's own calls and replies are a run.
     pub fn log(&self) -> &Log
         ensures entries { entries_of result.now ≡ self.now.checked.log }

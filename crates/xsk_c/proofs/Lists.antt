@@ -3,7 +3,7 @@ use Rattle.std.proofs.Common.{◌≡◌, ℕ, ◌+◌, ◌<◌, Some, List, [], 
 use Rattle.std.specs.List.{slice_get}
 use Rattle.std.proofs.Math.ListN.{set}
 use Rattle.std.proofs.Math.Seq.{set-append_seam}
-use Rattle.std.proofs.lemmas.List.{drop_more, take_more, length-take-le, get_or-map, length-map, map-append}
+use Rattle.std.proofs.lemmas.List.{drop_more, take_more, length-take-le, get_or-map, length-map}
 use Rattle.std.proofs.lemmas.Option.{get_or_from_slice_get, slice_get_within}
 
 -- one place more is overwritten
@@ -20,10 +20,3 @@ put_next f xs ys i x is below =
     ap (λ (l : List _). set (front ++ l) i (f x)) (drop_more ys i (f x) below)
     ∙ subst (λ (n : ℕ). set (front ++ get_or ys i (f x) ∷ rest) n (f x) ≡ front ++ f x ∷ rest) len (set-append_seam front (get_or ys i (f x)) rest (f x))
     ∙ sym (ap (λ (l : List _). l ++ rest) more ∙ append_assoc front (f x ∷ []) rest)
-
--- one more is made
-pub made_next : {X Y : Type 0} (f : X → Y) (xs : List X) (ys : List Y) (i : ℕ) (x : X) → map f xs ≡ take i ys → i < length ys → get_or ys i (f x) ≡ f x
-    → map f (xs ++ x ∷ []) ≡ take (i + 1) ys
-made_next f xs ys i x was below is =
-    map-append f xs (x ∷ []) ∙ ap (λ (l : List _). l ++ f x ∷ []) was
-    ∙ sym (take_more ys i (f x) below ∙ ap (λ (y : _). take i ys ++ y ∷ []) is)

@@ -61,12 +61,8 @@ reply_number reply.Empty = EMPTY
 reply_number reply.Released = DONE
 reply_number (reply.Old value) = DONE
 
--- how many places are free, where a reply tells that, and else what stood there
-abbrev pub places_in : ℕ → Reply → ℕ
-places_in before (reply.Full free) = free
-places_in before other = before
-
--- the number of a mark, where a reply tells that, and else what stood there
-abbrev pub value_in : ℕ → Reply → ℕ
-value_in before (reply.Old value) = value
-value_in before other = before
+-- how many places are free, or the number of a mark, where a reply tells that, and else what stood there
+abbrev pub told_in : ℕ → Reply → ℕ
+told_in before (reply.Full free) = free
+told_in before (reply.Old value) = value
+told_in before other = before

@@ -1,6 +1,7 @@
 -- What the exports that make a call do: the call of xsk_bench, and what they tell of it.
-use Rattle.std.specs.Prelude.{◌≡◌, ℕ, ◌<◌, ◌≤◌, ◌⊎◌, Result, Ok, Err, List, [], ◌∷◌, ◌++◌, length, map, min}
+use Rattle.std.specs.Prelude.{◌≡◌, ℕ, ◌<◌, ◌≤◌, ◌⊎◌, Result, Ok, Err, Option, List, [], ◌∷◌, ◌++◌, length, min}
 use Rattle.xsk_umem.specs.Frame.{Frame}
+use Rattle.xsk_umem.specs.Geometry.{Geometry}
 use Rattle.xsk_umem.specs.Limits.{most_items}
 use Rattle.xsk_umem.specs.declared.batch.Item.{Item}
 use Rattle.xsk_model.specs.Asks.{joined_reply}
@@ -10,8 +11,7 @@ use Rattle.xsk_model.specs.Object.{reply_at, taken}
 use Rattle.xsk_model.specs.Rings.{caller_of}
 use Rattle.xsk_model.specs.declared.ask.Answer.{Answer}
 use Rattle.xsk_model.specs.declared.call.Call.{Call}
-use Rattle.xsk_model.specs.declared.call.Call.TheVariants.{Reserve, Submit, Peek, Release, Swap, Look}
-use Rattle.xsk_model.specs.declared.call.Mark.{Mark}
+use Rattle.xsk_model.specs.declared.call.Call.TheVariants.{Submit, Peek}
 use Rattle.xsk_model.specs.declared.call.Reply.{Reply}
 use Rattle.xsk_model.specs.declared.call.Ring.{Ring}
 use Rattle.xsk_legal.specs.Why.{Fails}
@@ -20,9 +20,10 @@ use Rattle.xsk_turns.specs.Workers.{Setting}
 use Rattle.xsk_bench.specs.Played.{HasPlayed}
 use Rattle.xsk_bench.specs.Serving.{entry_by}
 use Rattle.xsk_bench.specs.declared.play.Play.{Play}
-use Rattle.xsk_c.specs.Answers.{condition_number, reply_number, places_in, value_in}
-use Rattle.xsk_c.specs.Items.{IsShortFor, drawn_of, drawn_over}
-use Rattle.xsk_c.specs.declared.answers.TheConstants.{NO_MEMORY, SHORT, COUNT, ITEMS, FRAMES}
+use Rattle.xsk_c.specs.Answers.{condition_number, reply_number, told_in}
+use Rattle.xsk_c.specs.Items.{drawn_over, items_of, left_by}
+use Rattle.xsk_c.specs.Purse.{with_frames}
+use Rattle.xsk_c.specs.declared.answers.TheConstants.{NO_MEMORY, COUNT}
 use Rattle.xsk_c.specs.declared.items.Desc.{Desc}
 use Rattle.xsk_c.specs.declared.state.State.{State}
 
@@ -62,64 +63,49 @@ abbrev pub number_in : Outcome → ℕ
 number_in (Ok reply) = reply_number reply
 number_in (Err number) = number
 
-abbrev pub free_in : ℕ → Outcome → ℕ
-free_in before (Ok reply) = places_in before reply
-free_in before (Err number) = before
-
-abbrev pub mark_value : ℕ → Outcome → ℕ
-mark_value before (Ok reply) = value_in before reply
-mark_value before (Err number) = before
+abbrev pub told_of : ℕ → Outcome → ℕ
+told_of before (Ok reply) = told_in before reply
+told_of before (Err number) = before
 
 abbrev pub items_in : Outcome → List Item
 items_in (Ok reply) = taken reply
 items_in (Err number) = []
 
--- ---- the exports
-
--- Each makes its call, and answers the number of how that ended.
-abbrev pub Reserves : Play → ℕ → Ring → ℕ → Play → (before after answer : ℕ) → Type 0
-Reserves old app r n new before after answer =
-    (outcome : Outcome) × Called old app (Reserve r n) new outcome × (answer ≡ number_in outcome) × (after ≡ free_in before outcome)
-
-abbrev pub Releases : Play → ℕ → Ring → ℕ → Play → (answer : ℕ) → Type 0
-Releases old app r n new answer = (outcome : Outcome) × Called old app (Release r n) new outcome × (answer ≡ number_in outcome)
-
-abbrev pub Looks : Play → ℕ → Mark → Play → (before after answer : ℕ) → Type 0
-Looks old app m new before after answer =
-    (outcome : Outcome) × Called old app (Look m) new outcome × (answer ≡ number_in outcome) × (after ≡ mark_value before outcome)
-
-abbrev pub Swaps : Play → ℕ → Mark → ℕ → Play → (before after answer : ℕ) → Type 0
-Swaps old app m value new before after answer =
-    (outcome : Outcome) × Called old app (Swap m value) new outcome × (answer ≡ number_in outcome) × (after ≡ mark_value before outcome)
-
--- an item that may not stand in a ring may be told as one whose frame the application hasn't
-abbrev pub IsTold : (number answer : ℕ) → Type 0
-IsTold number answer = (answer ≡ number) ⊎ ((number ≡ ITEMS) × (answer ≡ FRAMES))
-
--- the call of a Submit has items of these descriptors
-abbrev pub SubmitsThese : State → State → ℕ → Ring → List Desc → ℕ → Type 0
-SubmitsThese old new app r descs answer =
-    (items : List Item) × (map drawn_of items ≡ descs)
-    × (outcome : Outcome) × Called old.bench app (Submit r items) new.bench outcome × IsTold (number_in outcome) answer
-
--- no call is made where there are more than 32 descriptors, or too few bytes
-abbrev pub Submits : State → State → ℕ → Ring → List Desc → (bytes answer : ℕ) → Type 0
-Submits old new app r descs bytes answer =
-    (most_items < length descs → (answer ≡ COUNT) × (new ≡ old))
-    × (IsShortFor old.bench.checked.config.geometry r (length descs) bytes → (answer ≡ SHORT) × (new ≡ old))
-    × (length descs ≤ most_items → (IsShortFor old.bench.checked.config.geometry r (length descs) bytes → ⊥) → SubmitsThese old new app r descs answer)
-
 abbrev pub count_in : ℕ → Outcome → ℕ
 count_in before (Ok reply) = length (taken reply)
 count_in before (Err number) = before
 
--- the call of a Peek takes at most so many items, and their descriptors stand in place of as many
-abbrev pub PeeksThese : State → State → ℕ → Ring → (before after : List Desc) → (had count answer : ℕ) → Type 0
-PeeksThese old new app r before after had count answer =
+-- ---- the exports
+
+-- Each makes its call, and answers the number of how that ended. One that moves no items leaves the applications' frames.
+abbrev pub Makes : State → State → ℕ → Call → (before after answer : ℕ) → Type 0
+Makes old new app call before after answer =
+    (outcome : Outcome) × Called old.bench app call new.bench outcome × (answer ≡ number_in outcome) × (after ≡ told_of before outcome)
+    × (new.purse ≡ old.purse)
+
+abbrev pub geometry_of : State → Geometry
+geometry_of state = state.bench.checked.config.geometry
+
+-- the applications' frames after a Submit: those of the items are gone, and where it isn't made they are put back
+abbrev pub left_after : List (Option Frame) → List Item → Outcome → List (Option Frame)
+left_after left items (Ok reply) = left
+left_after left items (Err number) = with_frames left items
+
+-- the call of a Submit has the items of the descriptors
+abbrev pub SubmitsThese : State → State → ℕ → Ring → List Desc → ℕ → Type 0
+SubmitsThese old new app r descs answer =
+    let items = items_of (geometry_of old) old.purse.frames.items descs in
+    (outcome : Outcome) × Called old.bench app (Submit r items) new.bench outcome × (answer ≡ number_in outcome)
+    × (new.purse.frames.items ≡ left_after (left_by (geometry_of old) old.purse.frames.items descs) items outcome)
+
+-- no call is made where there are more than 32 descriptors
+abbrev pub Submits : State → State → ℕ → Ring → List Desc → (answer : ℕ) → Type 0
+Submits old new app r descs answer =
+    (most_items < length descs → (answer ≡ COUNT) × (new ≡ old)) × (length descs ≤ most_items → SubmitsThese old new app r descs answer)
+
+-- The call of a Peek takes at most so many items. Their descriptors stand in place of as many, and the application has their frames.
+abbrev pub Peeks : State → State → ℕ → Ring → (before after : List Desc) → (had count answer : ℕ) → Type 0
+Peeks old new app r before after had count answer =
     (outcome : Outcome) × Called old.bench app (Peek r (min (length before) 64)) new.bench outcome × (answer ≡ number_in outcome)
     × (after ≡ drawn_over before (items_in outcome)) × (count ≡ count_in had outcome)
-
-abbrev pub Peeks : State → State → ℕ → Ring → (before after : List Desc) → (bytes had count answer : ℕ) → Type 0
-Peeks old new app r before after bytes had count answer =
-    (IsShortFor old.bench.checked.config.geometry r (length before) bytes → (answer ≡ SHORT) × (new ≡ old) × (after ≡ before) × (count ≡ had))
-    × ((IsShortFor old.bench.checked.config.geometry r (length before) bytes → ⊥) → PeeksThese old new app r before after had count answer)
+    × (new.purse.frames.items ≡ with_frames old.purse.frames.items (items_in outcome))

@@ -1,8 +1,11 @@
 pub mod Answers
 pub mod Calls
+pub mod Captures
 pub mod Held
 pub mod Items
+pub mod Journal
 pub mod Live
 pub mod Opened
+pub mod Purse
 pub mod Reading
 pub mod Rounds

@@ -1,5 +1,5 @@
 -- A bench that was opened for C, and why another isn't.
-use Rattle.std.specs.Prelude.{◌≡◌, ℕ, Bool, true, false, None, Some, List, [], min}
+use Rattle.std.specs.Prelude.{◌≡◌, ◌⊎◌, ℕ, Bool, true, false, None, Some, List, [], length, min, replicate}
 use Rattle.xsk_umem.specs.Frame.{Frame}
 use Rattle.xsk_socket.specs.Layout.{fault_of}
 use Rattle.xsk_socket.specs.Regular.{regular_of}
@@ -9,13 +9,14 @@ use Rattle.xsk_turns.specs.Workers.{Setting}
 use Rattle.xsk_turns.specs.declared.wire.Wire.{Wire}
 use Rattle.xsk_turns.specs.declared.wire.Wire.TheVariants.{Wait, Drop}
 use Rattle.xsk_bench.specs.Played.{HasPlayed}
-use Rattle.xsk_bench.specs.declared.play.Play.{Play}
 use Rattle.xsk_c.specs.Answers.{fault_number, capture_number}
+use Rattle.xsk_c.specs.Captures.{AreRead, IsMemory, HaveNoTraffic}
 use Rattle.xsk_c.specs.declared.answers.TheConstants.{DONE, LIVE, NO_MEMORY, BAD_CAPTURES}
 use Rattle.xsk_c.specs.declared.handle.Handle.{Handle}
 use Rattle.xsk_c.specs.declared.opening.Refusal.{Refusal}
 use Rattle.xsk_c.specs.declared.opening.Refusal.TheVariants as refusal
 use Rattle.xsk_c.specs.declared.opening.Wanted.{Wanted}
+use Rattle.xsk_c.specs.declared.state.State.{State}
 
 -- the layout that is wanted, with so many captures, each of which a port must have
 abbrev pub layout_in : Wanted → ℕ → Layout
@@ -43,13 +44,24 @@ abbrev pub wire_in : Bool → Wire
 wire_in true = Drop
 wire_in false = Wait
 
--- no call was made yet, in the configuration of the layout
-pub record IsOpened (w : Wanted) (captures : ℕ) (p : Play) : Type 0 where
+-- no call was made yet, in the configuration of the layout; what its ports receive are the captures' packets, and the applications have
+-- no frames
+pub record IsOpened (w : Wanted) (text ends : List ℕ) (state : State) : Type 0 where
   pub setting : Setting
   pub frames : List Frame
-  pub config : setting.config ≡ regular_of (layout_in w captures)
+  pub config : setting.config ≡ regular_of (layout_in w (length ends))
   pub wire : setting.wire ≡ wire_in w.drops
-  pub played : HasPlayed setting frames [] p
+  pub packets : AreRead text 0 ends setting.packets
+  pub played : HasPlayed setting frames [] state.bench
+  pub none : state.purse.frames.items ≡ replicate setting.config.geometry.frames None
+
+abbrev pub IsLayoutRefused : Layout → Refusal → Type 0
+IsLayoutRefused layout why = IsMemory why ⊎ ((fault : Unlawful) × (why ≡ refusal.Layout fault) × (fault_of layout ≡ Some fault))
+
+-- the layout is refused, or else the captures are
+abbrev pub IsWhyNot : Wanted → List ℕ → (ends : List ℕ) → Refusal → Type 0
+IsWhyNot w text ends why =
+    IsLayoutRefused (layout_in w (length ends)) why ⊎ HaveNoTraffic (regular_of (layout_in w (length ends))).ports text ends why
 
 abbrev pub refusal_number : Refusal → ℕ
 refusal_number (refusal.Layout why) = fault_number why
@@ -63,9 +75,10 @@ pub record IsSame (old new : Handle) : Type 0 where
   pub state : new.state ≡ old.state
 
 -- A handle that isn't live is so afterwards with a bench of the layout, where that is done; and else nothing is done: neither to a
--- live one. A layout that is refused is told with the first reason.
-pub record Opens (old new : Handle) (w : Wanted) (captures answer : ℕ) : Type 0 where
+-- live one. A layout that is refused is told with the first reason, and so are captures.
+pub record Opens (old new : Handle) (w : Wanted) (text ends : List ℕ) (answer : ℕ) : Type 0 where
   pub live : old.live ≡ true → answer ≡ LIVE
-  pub fault : old.live ≡ false → (why : Unlawful) → fault_of (layout_in w captures) ≡ Some why → answer ≡ fault_number why
-  pub opened : answer ≡ DONE → (old.live ≡ false) × (new.live ≡ true) × IsOpened w captures new.state.bench
+  pub fault : old.live ≡ false → (why : Unlawful) → fault_of (layout_in w (length ends)) ≡ Some why → answer ≡ fault_number why
+  pub why : old.live ≡ false → (answer ≡ DONE → ⊥) → (why : Refusal) × (answer ≡ refusal_number why) × IsWhyNot w text ends why
+  pub opened : answer ≡ DONE → (old.live ≡ false) × (new.live ≡ true) × IsOpened w text ends new.state
   pub refused : (answer ≡ DONE → ⊥) → IsSame old new

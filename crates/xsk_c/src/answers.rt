@@ -2,7 +2,7 @@
 ghost use Rattle.std.specs.Prelude.{◌≡◌, List, MatchOption};
 ghost use Rattle.xsk_umem.specs.declared.batch.Item.{Item};
 ghost use Rattle.xsk_model.specs.Asks.{joined_reply};
-ghost use Rattle.xsk_c.specs.Answers.{condition_number, fault_number, capture_number, reply_number, places_in, value_in};
+ghost use Rattle.xsk_c.specs.Answers.{condition_number, fault_number, capture_number, reply_number, told_in};
 
 use xsk_legal::Illegal;
 use xsk_model::Answer;
@@ -26,10 +26,6 @@ pub(crate) const FULL: u32 = 6;
 pub(crate) const EMPTY: u32 = 7;
 
 pub(crate) const COUNT: u32 = 19;
-
-pub(crate) const ITEMS: u32 = 21;
-
-pub(crate) const FRAMES: u32 = 22;
 
 pub(crate) const BAD_CAPTURES: u32 = 35;
 
@@ -120,32 +116,14 @@ pub(crate) fn number_of_answer(answer: Answer) -> u32
     }
 }
 
-/// How many places are free, where a reply tells that, and else what stood there.
-pub(crate) fn places_of(answer: Answer, before: u32) -> u32
-    ensures { (items : List Item) → result ≡ places_in before (joined_reply answer items) }
+/// How many places are free, or what a mark was, where a reply tells that, and else what stood there.
+pub(crate) fn number_in(answer: Answer, before: u64) -> u64
+    ensures { (items : List Item) → result ≡ told_in before (joined_reply answer items) }
 {
     match answer {
-        Answer::Full(free) => free,
-        Answer::Granted
-        | Answer::Submitted
-        | Answer::Items
-        | Answer::Empty
-        | Answer::Released
-        | Answer::Old(_) => before,
-    }
-}
-
-/// The number of a mark, where a reply tells that, and else what stood there.
-pub(crate) fn value_of(answer: Answer, before: u64) -> u64
-    ensures { (items : List Item) → result ≡ value_in before (joined_reply answer items) }
-{
-    match answer {
+        Answer::Full(free) => u64::from(free),
         Answer::Old(value) => value,
-        Answer::Full(_)
-        | Answer::Granted
-        | Answer::Submitted
-        | Answer::Items
-        | Answer::Empty
-        | Answer::Released => before,
+        Answer::Granted | Answer::Submitted | Answer::Items | Answer::Empty | Answer::Released =>
+            before,
     }
 }

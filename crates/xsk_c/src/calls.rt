@@ -1,17 +1,15 @@
 //! The calls that C makes for an application, and the drivers' rounds.
-ghost use Rattle.std.specs.Prelude.{◌≡◌, IfOk, length};
+ghost use Rattle.std.specs.Prelude.{◌≡◌, [], IfErr, IfOk};
 ghost use Rattle.xsk_model.specs.Asks.{HasAnswered, HasAsked, joined_call};
-ghost use Rattle.xsk_c.specs.Calls.{Called, IsTold, outcome_of, Reserves, Submits, Peeks, Releases, Looks, Swaps};
-ghost use Rattle.xsk_c.specs.Live.{OnRing, OnMark};
+ghost use Rattle.xsk_c.specs.Calls.{Called, outcome_of, geometry_of, Makes, Submits, Peeks};
+ghost use Rattle.xsk_c.specs.Live.{OnCall, OnRing};
+ghost use Rattle.xsk_c.specs.Purse.{Writes};
 ghost use Rattle.xsk_c.specs.Rounds.{HasRound, HasRounds};
 
 use crate::answers::{
-    COUNT, DONE, FRAMES, ITEMS, NO_MEMORY, NO_SUCH, SHORT, number_of_answer, number_of_condition,
-    places_of, value_of,
+    COUNT, DONE, NO_MEMORY, NO_SUCH, number_in, number_of_answer, number_of_condition,
 };
-use crate::items::{
-    Desc, is_short, lacks_frame, lay_items, mark_of, ring_of, take_items, write_descs,
-};
+use crate::items::{Asked, Desc, ask_of, ring_of, take_items, write_descs};
 use crate::state::State;
 use xsk_bench::Unserved;
 use xsk_model::{Answer, Ask};
@@ -20,12 +18,16 @@ use xsk_umem::{Batch, MOST_ITEMS};
 impl State {
     /// Makes a call for an application, with the items of a Submit taken from the batch and those of a Peek put there, or tells the
     /// number of why it isn't made.
-    fn call(&mut self, app: u32, ask: Ask, items: &mut Batch) -> Result<Answer, u32>
-        requires { HasAsked ask items.old }
-        ensures called { Called self.old.bench app (joined_call ask items.old) self.new.bench (outcome_of result items.new) }
-        ensures answered { IfOk result (λ answer. HasAnswered answer items.new) }
+    fn serve(&mut self, app: u32, ask: Ask) -> Result<Answer, u32>
+        requires { HasAsked ask self.old.items }
+        ensures called { Called self.old.bench app (joined_call ask self.old.items) self.new.bench (outcome_of result self.new.items) }
+        ensures answered { IfOk result (λ answer. HasAnswered answer self.new.items) }
+        ensures left { IfErr result (λ number. self.new.items ≡ self.old.items) }
+        ensures purse { self.new.purse ≡ self.old.purse }
     {
-        match self.bench.serve(app, ask, items) {
+        // For the proof: the log is that of a history which was played.
+        let _log = self.bench.log();
+        match self.bench.serve(app, ask, &mut self.items) {
             Ok(answer) => Ok(answer),
             Err(Unserved::Illegal(why)) => Err(number_of_condition(why)),
             Err(Unserved::StrayItems) => unreachable!(),
@@ -33,40 +35,26 @@ impl State {
         }
     }
 
-    /// Asks for places of a ring. How many are free is told where they are too few.
-    pub(crate) fn reserve(
-        &mut self,
-        app: u32,
-        kind: u32,
-        index: u32,
-        count: u32,
-        free: &mut u32,
-    ) -> u32
-        ensures { OnRing kind index self.old self.new result (free.new ≡ free.old) (λ r. Reserves self.old.bench app r count self.new.bench free.old free.new result) }
+    /// Makes a call that moves no items. The number of its reply is told, where it has one.
+    pub(crate) fn make(&mut self, app: u32, asked: &Asked, told: &mut u64) -> u32
+        ensures { OnCall asked.now self.old self.new result (told.new ≡ told.old) (λ call. Makes self.old self.new app call told.old told.new result) }
     {
-        let Some(ring) = ring_of(kind, index) else {
+        let Some(ask) = ask_of(asked) else {
             return NO_SUCH;
         };
-        let mut items = Batch::new();
-        match self.call(app, Ask::Reserve(ring, count), &mut items) {
+        empty(&mut self.items);
+        match self.serve(app, ask) {
             Ok(answer) => {
-                *free = places_of(answer, *free);
+                *told = number_in(answer, *told);
                 number_of_answer(answer)
             }
             Err(number) => number,
         }
     }
 
-    /// Submits items of descriptors; on TX item `i` has the bytes in place `i` of all bytes.
-    pub(crate) fn submit(
-        &mut self,
-        app: u32,
-        kind: u32,
-        index: u32,
-        descs: &[Desc],
-        bytes: &[u8],
-    ) -> u32
-        ensures { OnRing kind index self.old self.new result Unit (λ r. Submits self.old self.new app r descs.now (length bytes.now) result) }
+    /// Submits items of descriptors, each with the frame of its address.
+    pub(crate) fn submit(&mut self, app: u32, kind: u32, index: u32, descs: &[Desc]) -> u32
+        ensures { OnRing kind index self.old self.new result Unit (λ r. Submits self.old self.new app r descs.now result) }
     {
         let Some(ring) = ring_of(kind, index) else {
             return NO_SUCH;
@@ -74,113 +62,58 @@ impl State {
         if descs.len() > MOST_ITEMS as usize {
             return COUNT;
         }
+        empty(&mut self.items);
         let geometry = self.bench.config().geometry();
-        if is_short(geometry, ring, descs.len(), bytes.len()) {
-            return SHORT;
-        }
-        let mut items = Batch::new();
-        take_items(&mut self.purse, geometry, ring, descs, bytes, &mut items);
-        match self.call(app, Ask::Submit(ring), &mut items) {
+        take_items(&mut self.purse, geometry, descs, &mut self.items);
+        match self.serve(app, Ask::Submit(ring)) {
             Ok(answer) => number_of_answer(answer),
             Err(number) => {
-                let lacks = lacks_frame(self.bench.config().geometry(), &items);
-                self.purse.put_all(&mut items);
-                number_of_lack(number, lacks)
+                self.purse.put_all(&mut self.items);
+                number
             }
         }
     }
 
-    /// Takes items from a ring, as many as there are descriptors, and on RX puts the bytes of item `i` into place `i` of all bytes.
+    /// Takes items from a ring, as many as there are descriptors.
     pub(crate) fn peek(
         &mut self,
         app: u32,
         kind: u32,
         index: u32,
         descs: &mut [Desc],
-        bytes: &mut [u8],
         count: &mut u32,
     ) -> u32
-        ensures { OnRing kind index self.old self.new result ((descs.new ≡ descs.old) × (count.new ≡ count.old)) (λ r. Peeks self.old self.new app r descs.old descs.new (length bytes.old) count.old count.new result) }
+        ensures { OnRing kind index self.old self.new result ((descs.new ≡ descs.old) × (count.new ≡ count.old)) (λ r. Peeks self.old self.new app r descs.old descs.new count.old count.new result) }
     {
         let Some(ring) = ring_of(kind, index) else {
             return NO_SUCH;
         };
-        let geometry = self.bench.config().geometry();
-        if is_short(geometry, ring, descs.len(), bytes.len()) {
-            return SHORT;
-        }
-        let mut items = Batch::new();
+        empty(&mut self.items);
         let wanted = descs.len().min(64) as u32;
-        match self.call(app, Ask::Peek(ring, wanted), &mut items) {
+        match self.serve(app, Ask::Peek(ring, wanted)) {
             Ok(answer) => {
-                *count = items.len();
-                write_descs(&items, descs);
-                let geometry = self.bench.config().geometry();
-                lay_items(&mut self.purse, geometry, ring, &mut items, bytes);
+                *count = self.items.len();
+                write_descs(&self.items, descs);
+                self.purse.put_all(&mut self.items);
                 number_of_answer(answer)
             }
             Err(number) => number,
         }
     }
 
-    /// Gives back places of a ring that were peeked.
-    pub(crate) fn release(&mut self, app: u32, kind: u32, index: u32, count: u32) -> u32
-        ensures { OnRing kind index self.old self.new result Unit (λ r. Releases self.old.bench app r count self.new.bench result) }
+    /// Writes bytes to the frame of an address, from the address on, if it is there and they fit.
+    pub(crate) fn write(&mut self, addr: u64, bytes: &[u8]) -> u32
+        ensures bench { self.new.bench ≡ self.old.bench }
+        ensures bytes { Writes (geometry_of self.old) addr bytes.now self.old.purse.frames.items self.new.purse.frames.items result }
     {
-        let Some(ring) = ring_of(kind, index) else {
-            return NO_SUCH;
-        };
-        let mut items = Batch::new();
-        match self.call(app, Ask::Release(ring, count), &mut items) {
-            Ok(answer) => number_of_answer(answer),
-            Err(number) => number,
-        }
-    }
-
-    /// Reads a mark.
-    pub(crate) fn look(&mut self, app: u32, kind: u32, index: u32, value: &mut u64) -> u32
-        ensures { OnMark kind index self.old self.new result (value.new ≡ value.old) (λ m. Looks self.old.bench app m self.new.bench value.old value.new result) }
-    {
-        let Some(mark) = mark_of(kind, index) else {
-            return NO_SUCH;
-        };
-        let mut items = Batch::new();
-        match self.call(app, Ask::Look(mark), &mut items) {
-            Ok(answer) => {
-                *value = value_of(answer, *value);
-                number_of_answer(answer)
-            }
-            Err(number) => number,
-        }
-    }
-
-    /// Sets a mark, and tells what it was.
-    pub(crate) fn swap(
-        &mut self,
-        app: u32,
-        kind: u32,
-        index: u32,
-        number: u64,
-        was: &mut u64,
-    ) -> u32
-        ensures { OnMark kind index self.old self.new result (was.new ≡ was.old) (λ m. Swaps self.old.bench app m number self.new.bench was.old was.new result) }
-    {
-        let Some(mark) = mark_of(kind, index) else {
-            return NO_SUCH;
-        };
-        let mut items = Batch::new();
-        match self.call(app, Ask::Swap(mark, number), &mut items) {
-            Ok(answer) => {
-                *was = value_of(answer, *was);
-                number_of_answer(answer)
-            }
-            Err(number) => number,
-        }
+        let geometry = self.bench.config().geometry();
+        self.purse.write(geometry, addr, bytes)
     }
 
     /// Lets each driver that hasn't ended make one call, and tells whether these changed nothing.
     pub(crate) fn round(&mut self, still: &mut bool) -> u32
-        ensures { HasRound self.old.bench self.new.bench still.old still.new result }
+        ensures round { HasRound self.old.bench self.new.bench still.old still.new result }
+        ensures purse { self.new.purse ≡ self.old.purse }
     {
         match self.bench.round() {
             Ok(quiet) => {
@@ -193,7 +126,8 @@ impl State {
 
     /// Lets the drivers make rounds until they wait, but no more than so many, and tells whether they wait.
     pub(crate) fn run_drivers(&mut self, most: u32, wait: &mut bool) -> u32
-        ensures { HasRounds self.old.bench most self.new.bench wait.old wait.new result }
+        ensures rounds { HasRounds self.old.bench most self.new.bench wait.old wait.new result }
+        ensures purse { self.new.purse ≡ self.old.purse }
     {
         match self.bench.run_drivers(most) {
             Ok(waits) => {
@@ -205,14 +139,11 @@ impl State {
     }
 }
 
-/// The number of a Submit that isn't made: an item that may not stand in a ring since it hasn't its frame is one whose frame the
-/// application hasn't.
-fn number_of_lack(number: u32, lacks: bool) -> u32
-    ensures { IsTold number result }
+/// Empties a batch.
+fn empty(items: &mut Batch)
+    ensures { items.new ≡ [] }
 {
-    if lacks && number == ITEMS {
-        FRAMES
-    } else {
-        number
+    if !items.is_empty() {
+        *items = Batch::new();
     }
 }

@@ -1,14 +1,16 @@
 //! The calls that C makes; `c/include/xsk_c.h` declares them. Each answers a number of `answers.rt`.
-ghost use Rattle.std.specs.Prelude.{◌≡◌, true, false, length};
-ghost use Rattle.xsk_c.specs.Calls.{Reserves, Submits, Peeks, Releases, Looks, Swaps};
-ghost use Rattle.xsk_c.specs.Live.{OnLive, OnRing, OnMark};
-ghost use Rattle.xsk_c.specs.Opened.{Opens, IsOpened};
+ghost use Rattle.std.specs.Prelude.{◌≡◌, true, false};
+ghost use Rattle.xsk_c.specs.Calls.{Makes, Submits, Peeks, geometry_of};
+ghost use Rattle.xsk_c.specs.Journal.{TellsLog};
+ghost use Rattle.xsk_c.specs.Live.{OnLive, OnCall, OnRing};
+ghost use Rattle.xsk_c.specs.Opened.{Opens};
+ghost use Rattle.xsk_c.specs.Purse.{ReadsFrom, Writes, frame_at};
 ghost use Rattle.xsk_c.specs.Reading.{TellsCount, TellsPacket, TellsStatistics};
 ghost use Rattle.xsk_c.specs.Rounds.{HasRound, HasRounds};
 
 use crate::answers::{DONE, LIVE, NO_MEMORY, NOT_LIVE};
 use crate::handle::Handle;
-use crate::items::Desc;
+use crate::items::{Asked, Desc};
 use crate::opening::{Wanted, number_of_refusal, open};
 use crate::reading::Statistics;
 use crate::texts::tell_why;
@@ -23,7 +25,7 @@ pub extern "C" fn xsk_c_open(
     text: &[u8],
     ends: &[u64],
 ) -> u32
-    ensures { Opens handle.old handle.new wanted.now (length ends.now) result }
+    ensures { Opens handle.old handle.new wanted.now text.now ends.now result }
 {
     if let Some(state) = handle.take(alloc) {
         handle.put(state);
@@ -56,28 +58,26 @@ pub extern "C" fn xsk_c_close(alloc: Global, handle: &mut Handle) -> u32
     }
 }
 
-/// Asks for places of FILL or TX. How many are free is told where they are too few.
+/// Makes a call that moves no items. How many places are free is told where they are too few, and of a mark what it was.
 #[unsafe(no_mangle)]
-pub extern "C" fn xsk_c_reserve(
+pub extern "C" fn xsk_c_call(
     alloc: Global,
     handle: &mut Handle,
     app: u32,
-    kind: u32,
-    ring: u32,
-    count: u32,
-    free: &mut u32,
+    asked: &Asked,
+    told: &mut u64,
 ) -> u32
-    ensures { OnLive handle.old handle.new result (free.new ≡ free.old) (λ old new. OnRing kind ring old new result (free.new ≡ free.old) (λ r. Reserves old.bench app r count new.bench free.old free.new result)) }
+    ensures { OnLive handle.old handle.new result (told.new ≡ told.old) (λ old new. OnCall asked.now old new result (told.new ≡ told.old) (λ call. Makes old new app call told.old told.new result)) }
 {
     let Some(mut state) = handle.take(alloc) else {
         return NOT_LIVE;
     };
-    let answer = state.reserve(app, kind, ring, count, free);
+    let answer = state.make(app, asked, told);
     handle.put(state);
     answer
 }
 
-/// Submits items; on TX the bytes of item `i` stand in place `i` of all bytes.
+/// Submits items, each with the frame of its address.
 #[unsafe(no_mangle)]
 pub extern "C" fn xsk_c_submit(
     alloc: Global,
@@ -86,19 +86,18 @@ pub extern "C" fn xsk_c_submit(
     kind: u32,
     ring: u32,
     descs: &[Desc],
-    bytes: &[u8],
 ) -> u32
-    ensures { OnLive handle.old handle.new result Unit (λ old new. OnRing kind ring old new result Unit (λ r. Submits old new app r descs.now (length bytes.now) result)) }
+    ensures { OnLive handle.old handle.new result Unit (λ old new. OnRing kind ring old new result Unit (λ r. Submits old new app r descs.now result)) }
 {
     let Some(mut state) = handle.take(alloc) else {
         return NOT_LIVE;
     };
-    let answer = state.submit(app, kind, ring, descs, bytes);
+    let answer = state.submit(app, kind, ring, descs);
     handle.put(state);
     answer
 }
 
-/// Takes items, as many as there are descriptors; on RX the bytes of item `i` are put into place `i` of all bytes.
+/// Takes items, as many as there are descriptors. The application has their frames then.
 #[unsafe(no_mangle)]
 pub extern "C" fn xsk_c_peek(
     alloc: Global,
@@ -107,76 +106,40 @@ pub extern "C" fn xsk_c_peek(
     kind: u32,
     ring: u32,
     descs: &mut [Desc],
-    bytes: &mut [u8],
     count: &mut u32,
 ) -> u32
-    ensures { OnLive handle.old handle.new result ((descs.new ≡ descs.old) × (count.new ≡ count.old)) (λ old new. OnRing kind ring old new result ((descs.new ≡ descs.old) × (count.new ≡ count.old)) (λ r. Peeks old new app r descs.old descs.new (length bytes.old) count.old count.new result)) }
+    ensures { OnLive handle.old handle.new result ((descs.new ≡ descs.old) × (count.new ≡ count.old)) (λ old new. OnRing kind ring old new result ((descs.new ≡ descs.old) × (count.new ≡ count.old)) (λ r. Peeks old new app r descs.old descs.new count.old count.new result)) }
 {
     let Some(mut state) = handle.take(alloc) else {
         return NOT_LIVE;
     };
-    let answer = state.peek(app, kind, ring, descs, bytes, count);
+    let answer = state.peek(app, kind, ring, descs, count);
     handle.put(state);
     answer
 }
 
-/// Gives back places of RX or COMPLETION that were peeked.
+/// Writes bytes to the frame of an address, from the address on. An application must have it.
 #[unsafe(no_mangle)]
-pub extern "C" fn xsk_c_release(
-    alloc: Global,
-    handle: &mut Handle,
-    app: u32,
-    kind: u32,
-    ring: u32,
-    count: u32,
-) -> u32
-    ensures { OnLive handle.old handle.new result Unit (λ old new. OnRing kind ring old new result Unit (λ r. Releases old.bench app r count new.bench result)) }
+pub extern "C" fn xsk_c_write(alloc: Global, handle: &mut Handle, addr: u64, bytes: &[u8]) -> u32
+    ensures { OnLive handle.old handle.new result Unit (λ old new. (new.bench ≡ old.bench) × Writes (geometry_of old) addr bytes.now old.purse.frames.items new.purse.frames.items result) }
 {
     let Some(mut state) = handle.take(alloc) else {
         return NOT_LIVE;
     };
-    let answer = state.release(app, kind, ring, count);
+    let answer = state.write(addr, bytes);
     handle.put(state);
     answer
 }
 
-/// Reads a mark.
+/// Copies bytes of the frame of an address, from the address on. An application must have it.
 #[unsafe(no_mangle)]
-pub extern "C" fn xsk_c_look(
-    alloc: Global,
-    handle: &mut Handle,
-    app: u32,
-    mark: u32,
-    index: u32,
-    value: &mut u64,
-) -> u32
-    ensures { OnLive handle.old handle.new result (value.new ≡ value.old) (λ old new. OnMark mark index old new result (value.new ≡ value.old) (λ m. Looks old.bench app m new.bench value.old value.new result)) }
+pub extern "C" fn xsk_c_read(alloc: Global, handle: &mut Handle, addr: u64, out: &mut [u8]) -> u32
+    ensures { OnLive handle.old handle.new result (out.new ≡ out.old) (λ old new. (new ≡ old) × ReadsFrom addr (frame_at (geometry_of old) old.purse.frames.items addr) out.old out.new result) }
 {
-    let Some(mut state) = handle.take(alloc) else {
+    let Some(state) = handle.take(alloc) else {
         return NOT_LIVE;
     };
-    let answer = state.look(app, mark, index, value);
-    handle.put(state);
-    answer
-}
-
-/// Sets a mark, and tells what it was.
-#[unsafe(no_mangle)]
-pub extern "C" fn xsk_c_swap(
-    alloc: Global,
-    handle: &mut Handle,
-    app: u32,
-    mark: u32,
-    index: u32,
-    value: u64,
-    was: &mut u64,
-) -> u32
-    ensures { OnLive handle.old handle.new result (was.new ≡ was.old) (λ old new. OnMark mark index old new result (was.new ≡ was.old) (λ m. Swaps old.bench app m value new.bench was.old was.new result)) }
-{
-    let Some(mut state) = handle.take(alloc) else {
-        return NOT_LIVE;
-    };
-    let answer = state.swap(app, mark, index, value, was);
+    let answer = state.purse.read(state.bench.config().geometry(), addr, out);
     handle.put(state);
     answer
 }
@@ -184,7 +147,7 @@ pub extern "C" fn xsk_c_swap(
 /// Lets each driver that hasn't ended make one call, and tells whether these changed nothing.
 #[unsafe(no_mangle)]
 pub extern "C" fn xsk_c_round(alloc: Global, handle: &mut Handle, still: &mut bool) -> u32
-    ensures { OnLive handle.old handle.new result (still.new ≡ still.old) (λ old new. HasRound old.bench new.bench still.old still.new result) }
+    ensures { OnLive handle.old handle.new result (still.new ≡ still.old) (λ old new. (new.purse ≡ old.purse) × HasRound old.bench new.bench still.old still.new result) }
 {
     let Some(mut state) = handle.take(alloc) else {
         return NOT_LIVE;
@@ -202,7 +165,7 @@ pub extern "C" fn xsk_c_run_drivers(
     most: u32,
     wait: &mut bool,
 ) -> u32
-    ensures { OnLive handle.old handle.new result (wait.new ≡ wait.old) (λ old new. HasRounds old.bench most new.bench wait.old wait.new result) }
+    ensures { OnLive handle.old handle.new result (wait.new ≡ wait.old) (λ old new. (new.purse ≡ old.purse) × HasRounds old.bench most new.bench wait.old wait.new result) }
 {
     let Some(mut state) = handle.take(alloc) else {
         return NOT_LIVE;
@@ -274,7 +237,7 @@ pub extern "C" fn xsk_c_journal(
     next: &mut u32,
     end: &mut u64,
 ) -> u32
-    ensures { OnLive handle.old handle.new result ((out.new ≡ out.old) × (next.new ≡ next.old) × (end.new ≡ end.old)) (λ old new. new ≡ old) }
+    ensures { OnLive handle.old handle.new result ((out.new ≡ out.old) × (next.new ≡ next.old) × (end.new ≡ end.old)) (λ old new. (new ≡ old) × TellsLog old.bench from out.old out.new next.new end.new result) }
 {
     let Some(state) = handle.take(alloc) else {
         return NOT_LIVE;

@@ -3,9 +3,11 @@
 
 mod answers;
 mod calls;
+mod captures;
 mod exports;
 mod handle;
 mod items;
+mod journal;
 mod opening;
 mod parts;
 mod purse;

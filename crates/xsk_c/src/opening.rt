@@ -1,25 +1,26 @@
 //! A bench is opened over captures.
-ghost use Rattle.std.specs.Prelude.{◌≡◌, All, IfOk, OnOk, Some, List, [], length};
+ghost use Rattle.std.specs.Prelude.{◌≡◌, IfErr, IfOk, None, Some, List, [], length};
 ghost use Rattle.xsk_model.specs.Opening.{AreFrames};
-ghost use Rattle.xsk_machine.specs.Acts.{HasShortPackets};
 ghost use Rattle.xsk_machine.specs.Workers.{setting_with};
 ghost use Rattle.xsk_prog.specs.declared.rule.Verdict.{Verdict as AVerdict};
 ghost use Rattle.xsk_socket.specs.Layout.{fault_of};
 ghost use Rattle.xsk_socket.specs.Regular.{regular_of};
 ghost use Rattle.xsk_turns.specs.Owned.{IsSteady};
 ghost use Rattle.xsk_bench.specs.Played.{HasPlayed};
-ghost use Rattle.xsk_c.specs.Opened.{IsOpened, layout_in, refusal_number, wire_in};
+ghost use Rattle.xsk_c.specs.Captures.{AreRead, HaveNoTraffic, IsMemory};
+ghost use Rattle.xsk_c.specs.Opened.{IsLayoutRefused, IsOpened, IsWhyNot, layout_in, refusal_number, wire_in};
 
 use crate::answers::{BAD_CAPTURES, NO_MEMORY, number_of_capture, number_of_fault};
+use crate::captures::lists_of;
 use crate::purse::Purse;
 use crate::state::State;
 use std::alloc::Global;
 use xsk_bench::{Amount, Bench, Traffic, Wire};
 use xsk_model::Config;
-use xsk_pcap::{BadCapture, read};
+use xsk_pcap::BadCapture;
 use xsk_prog::{Chain, Rule, XdpProgram};
 use xsk_socket::{Layout, Unlawful, all_frames, check_layout, regular};
-use xsk_umem::{Frames, PacketList, Umem};
+use xsk_umem::{Batch, Frames, Umem};
 
 /// The layout that C asks for.
 #[repr(C)]
@@ -76,7 +77,8 @@ pub(crate) fn open(
     ends: &[u64],
 ) -> Result<State, Refusal>
     ensures fault { (why : _) → fault_of (layout_in wanted.now (length ends.now)) ≡ Some why → result ≡ Err (Refusal.Layout why) }
-    ensures opened { IfOk result (λ state. IsOpened wanted.now (length ends.now) state.bench) }
+    ensures opened { IfOk result (IsOpened wanted.now text.now ends.now) }
+    ensures refused { IfErr result (IsWhyNot wanted.now text.now ends.now) }
 {
     let layout = layout_of(wanted, ends.len());
     let (config, frames) = opened(alloc, &layout)?;
@@ -91,7 +93,12 @@ pub(crate) fn open(
     let Ok(purse) = Purse::new(alloc, count) else {
         return Err(Refusal::OutOfMemory);
     };
-    Ok(State { bench, purse })
+    let items = Batch::new();
+    Ok(State {
+        bench,
+        purse,
+        items,
+    })
 }
 
 /// What becomes of a packet that finds no frame on FILL or no place on RX.
@@ -131,6 +138,7 @@ fn opened(alloc: Global, layout: &Layout) -> Result<(Config, Frames), Refusal>
     ensures fault { (why : _) → fault_of layout.now ≡ Some why → result ≡ Err (Refusal.Layout why) }
     ensures config { IfOk result (λ made. made.0 ≡ regular_of layout.now) }
     ensures steady { IfOk result (λ made. IsSteady made.0) }
+    ensures refused { IfErr result (IsLayoutRefused layout.now) }
     ensures frames { IfOk result (λ made. AreFrames made.0.geometry made.1.items) }
 {
     if let Err(why) = check_layout(layout) {
@@ -154,6 +162,7 @@ fn opened(alloc: Global, layout: &Layout) -> Result<(Config, Frames), Refusal>
 }
 
 /// The traffic of a configuration, which is never let go.
+#[tactic(auto, using(crate::proofs::OneMore::same_count))]
 fn traffic_of(
     alloc: Global,
     config: Config,
@@ -161,12 +170,14 @@ fn traffic_of(
     ends: &[u64],
 ) -> Result<&'static Traffic, Refusal>
     requires { IsSteady config }
-    ensures { IfOk result (λ traffic. traffic.now.config ≡ config) }
+    ensures config { IfOk result (λ traffic. traffic.now.config ≡ config) }
+    ensures read { IfOk result (λ traffic. AreRead text.now 0 ends.now traffic.now.packets) }
+    ensures refused { IfErr result (HaveNoTraffic config.ports text.now ends.now) }
 {
-    let lists = lists_of(alloc, text, ends)?;
-    if lists.len() != config.ports() as usize {
+    if ends.len() != config.ports() as usize {
         return Err(Refusal::Ends);
     }
+    let lists = lists_of(alloc, text, ends)?;
     let Ok(traffic) = Traffic::new(alloc, config, lists) else {
         return Err(Refusal::OutOfMemory);
     };
@@ -175,56 +186,6 @@ fn traffic_of(
     };
     let traffic: &'static Traffic = Box::leak(traffic);
     Ok(traffic)
-}
-
-/// The packets of the captures, each of which begins where the one before it ends.
-fn lists_of(alloc: Global, text: &[u8], ends: &[u64]) -> Result<Vec<PacketList>, Refusal>
-    ensures { IfOk result (λ lists. All HasShortPackets lists.items) }
-{
-    let mut lists = Vec::new(alloc);
-    let mut begin = 0;
-    for i in 0..ends.len() {
-        let end = ends[i];
-        let list = list_of(alloc, text, begin, end)?;
-        push_list(&mut lists, list)?;
-        begin = end;
-    }
-    Ok(lists)
-}
-
-/// Puts a list behind others.
-fn push_list(lists: &mut Vec<PacketList>, list: PacketList) -> Result<(), Refusal>
-    requires all { All HasShortPackets lists.old.items }
-    requires one { HasShortPackets list }
-    ensures { OnOk result (All HasShortPackets lists.new.items) }
-{
-    match lists.push(list) {
-        Ok(()) => Ok(()),
-        Err(_) => Err(Refusal::OutOfMemory),
-    }
-}
-
-/// The packets of the capture between two ends.
-fn list_of(alloc: Global, text: &[u8], begin: u64, end: u64) -> Result<PacketList, Refusal>
-    ensures { IfOk result HasShortPackets }
-{
-    if end < begin || end > text.len() as u64 {
-        return Err(Refusal::Ends);
-    }
-    read_list(alloc, &text[begin as usize..end as usize])
-}
-
-#[tactic(auto, using(crate::proofs::Short::short_packets))]
-fn read_list(alloc: Global, text: &[u8]) -> Result<PacketList, Refusal>
-    ensures { IfOk result HasShortPackets }
-{
-    let Ok(bytes) = Vec::from_slice(alloc, text) else {
-        return Err(Refusal::OutOfMemory);
-    };
-    match read(alloc, bytes) {
-        Ok(list) => Ok(list),
-        Err(refused) => Err(Refusal::Capture(refused.cause)),
-    }
 }
 
 /// The bench over traffic, with a program that redirects each packet to the socket of its class.
@@ -237,7 +198,8 @@ fn bench_over(
     room: Amount,
 ) -> Result<Bench<'static>, Refusal>
     requires frames { AreFrames traffic.now.config.geometry frames.items }
-    ensures { IfOk result (λ bench. (verdicts : List (List AVerdict)) × HasPlayed (setting_with traffic.now.config wire traffic.now.packets verdicts) frames.items [] bench) }
+    ensures refused { IfErr result IsMemory }
+    ensures opened { IfOk result (λ bench. (verdicts : List (List AVerdict)) × HasPlayed (setting_with traffic.now.config wire traffic.now.packets verdicts) frames.items [] bench) }
 {
     let sockets = sockets.clamp(1, 64);
     let rule = Rule::Redirect { sockets };

@@ -1,11 +1,12 @@
 //! What C asks a bench for: statistics, what was sent, and the journal.
 ghost use Rattle.std.specs.Prelude.{◌≡◌, ◌<◌};
-ghost use Rattle.xsk_c.specs.Reading.{CopiesTo, TellsCount, TellsPacket, TellsStatistics, statistics_in};
+ghost use Rattle.xsk_c.specs.Journal.{TellsLog};
+ghost use Rattle.xsk_c.specs.Reading.{TellsCount, TellsPacket, TellsStatistics, statistics_in};
 
 use crate::answers::{DONE, NO_SUCH, SHORT};
+use crate::journal::{put_lines, skip};
 use crate::state::State;
 use crate::texts::copy_to;
-use xsk_log::LineBuffer;
 use xsk_turns::DriverCounters;
 
 /// The classes that counters have.
@@ -79,34 +80,16 @@ impl State {
     }
 
     /// The journal's lines from a call on, as many as there is room for; it is told with which call to go on, and where the lines end.
-    pub(crate) fn journal(&self, from: u32, out: &mut [u8], next: &mut u32, end: &mut u64) -> u32 {
+    pub(crate) fn journal(&self, from: u32, out: &mut [u8], next: &mut u32, end: &mut u64) -> u32
+        ensures { TellsLog self.now.bench from out.old out.new next.new end.new result }
+    {
         let calls = self.bench.log().len();
+        let first = from.min(calls);
         let mut lines = self.bench.lines();
-        let mut line = LineBuffer::new();
-        let mut at = 0;
-        for call in 0..calls {
-            let _caller = lines.write_next(&mut line);
-            if call >= from {
-                let after = put_line(line.bytes(), out, at);
-                if after == at {
-                    *next = call;
-                    *end = at as u64;
-                    return SHORT;
-                }
-                at = after;
-            }
-        }
-        *next = calls.max(from);
-        *end = at as u64;
-        DONE
+        skip(&mut lines, first);
+        let mut count = 0;
+        let answer = put_lines(&mut lines, calls - first, out, &mut count, end);
+        *next = first + count;
+        answer
     }
-}
-
-/// Copies a line behind those before it, and tells where it ends: where it began, if there is no room.
-fn put_line(line: &[u8], out: &mut [u8], at: usize) -> usize {
-    if at > out.len() || line.len() > out.len() - at {
-        return at;
-    }
-    out[at..at + line.len()].copy_from_slice(line);
-    at + line.len()
 }

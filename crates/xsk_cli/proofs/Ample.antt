@@ -50,7 +50,7 @@ none_stalls (Simulate layout programs wire manner order number telling format) i
     none_stands_still (setting_of layout programs wire manner lists) (frames_of layout) order round (record { regular = regular-regular layout (fits layout accepted); closes = ample.1 }) (ample_room layout ample.2) ample.0
     (record { past = run.stalled.past; still = run.stalled.still })
 none_stalls (Generate number) inputs round told accepted ample is = is.1.2.1
-none_stalls (Audit layout) inputs round told accepted ample is = is.1.1
+none_stalls (Audit layout why) inputs round told accepted ample is = is.1.1
 
 -- so no command ends so
 pub never_stalled : (plan : Plan) (old new : Moment) (status : Status) (round : ℕ) → Ends plan old new status → fault_in plan.work ≡ None → HasAmple plan.work → status ≡ Stalled round → ⊥
@@ -62,12 +62,12 @@ never_stalled plan old new status round ends accepted ample is =
 none_illegal : (work : Work) (inputs : List (List ℕ)) (line : ℕ) → IsIllegalIn work inputs line → IsOnPackets work → ⊥
 none_illegal (Simulate layout programs wire manner order number telling format) inputs line is packets = is
 none_illegal (Generate number) inputs line is packets = is
-none_illegal (Audit layout) inputs line is packets = packets
+none_illegal (Audit layout why) inputs line is packets = packets
 
 pub never_illegal : (plan : Plan) (old new : Moment) (status : Status) (line : ℕ) → Ends plan old new status → status ≡ NotLegal line → IsOnPackets plan.work → ⊥
 never_illegal plan old new status line ends is packets =
     let now : Ends plan old new (NotLegal line) = subst (Ends plan old new) is ends in
-    none_illegal plan.work now.inputs line now.comes.1 packets
+    none_illegal plan.work now.inputs line now.comes.0.1 packets
 
 pub finished : (work : Work) (status : Status) → IsComplete status → ((round : ℕ) → status ≡ Stalled round → ⊥) → ((line : ℕ) → status ≡ NotLegal line → IsOnPackets work → ⊥) → IsFinished work status
 finished work Done complete goes legal = tt

@@ -90,7 +90,7 @@ module _ (plan : Plan) (old new : Moment) (inputs : List (List ℕ)) (told : Are
   answered (TooMuch (Bytes n)) outcome ends words h =
       same_outcome (TooMuch (Bytes n)) (passed (Bytes n)) outcome ends (reached (TooMuch (Bytes n)) _ ends ends.reaches) ends.comes h
   answered OutOfMemory outcome ends words h = tt
-  answered (NotLegal line) outcome ends words h = same_outcome (NotLegal line) (illegal line) outcome ends (reached (NotLegal line) _ ends ends.reaches) ends.comes h
+  answered (NotLegal line) outcome ends words h = same_outcome (NotLegal line) (illegal line) outcome ends (reached (NotLegal line) _ ends ends.reaches) ends.comes.0 h
   answered (BadPcapng cause) outcome ends words h =
       same_outcome (BadPcapng cause) (bad_file cause) outcome ends (reached (BadPcapng cause) _ ends ends.reaches) ends.comes h
 
@@ -100,13 +100,13 @@ module _ (plan : Plan) (old new : Moment) (inputs : List (List ℕ)) (told : Are
   not_bad (Simulate layout programs wire manner order None telling format) taken port cause h = bad_not_files format layout.ports inputs port cause taken.1.0 h.1 taken.1.1
   not_bad (Simulate layout programs wire manner order (Some number) telling format) taken port cause h = none_bad format inputs port cause taken h.1
   not_bad (Generate number) taken port cause h = none_bad Pcap inputs port cause taken h.1
-  not_bad (Audit layout) taken port cause h = h.2
+  not_bad (Audit layout why) taken port cause h = h.2
 
   not_bad_file : (work : Work) → AreTaken work inputs → (cause : FileCause) → IsOutcome work inputs (bad_file cause) → ⊥
   not_bad_file (Simulate layout programs wire manner order None telling format) taken cause h = bad_file_not_files format layout.ports inputs cause taken.1.0 h.1 taken.1.1
   not_bad_file (Simulate layout programs wire manner order (Some number) telling format) taken cause h = none_bad_file format layout.ports inputs cause taken h.1
   not_bad_file (Generate number) taken cause h = h.1
-  not_bad_file (Audit layout) taken cause h = h.1
+  not_bad_file (Audit layout why) taken cause h = h.1
 
   none_passed : (lists : List (List (List ℕ))) (excess : Excess) → excess_of lists ≡ Some excess → excess_of lists ≡ None → ⊥
   none_passed lists excess is none = let no = sym is ∙ none in absurd cc
@@ -119,13 +119,13 @@ module _ (plan : Plan) (old new : Moment) (inputs : List (List ℕ)) (told : Are
       none_passed h.0 excess h.2 (ap excess_of (same_files format layout.ports inputs h.0 taken.1.0 h.1 taken.1.1) ∙ taken.1.2)
   not_passed (Simulate layout programs wire manner order (Some number) telling format) accepted taken excess h = made_not_passed h.0 number layout.ports excess (few_ports layout accepted) h.1.1 h.2
   not_passed (Generate number) accepted taken excess h = made_not_passed h.0 number 1 excess (omega arith) h.1.1 h.2
-  not_passed (Audit layout) accepted taken excess h = h.1
+  not_passed (Audit layout why) accepted taken excess h = h.1
 
   all_short : (work : Work) → AreTaken work inputs → (port : ℕ) → port < length inputs → length (bytes_of inputs port) ≤ most_of work
   all_short (Simulate layout programs wire manner order None telling format) taken port known = taken.0 port known
   all_short (Simulate layout programs wire manner order (Some number) telling format) taken port known = absurd (omega (arith, known, ap length taken))
   all_short (Generate number) taken port known = absurd (omega (arith, known, ap length taken))
-  all_short (Audit layout) taken port known = taken port known
+  all_short (Audit layout why) taken port known = taken port known
 
   mine : (status : Status) (outcome : Outcome) → (ends : Ends plan old new status) → ends.reach.ends ≡ length plan.inputs → IsOutcome plan.work ends.inputs outcome → IsOutcome plan.work inputs outcome
   mine status outcome ends all is = subst (λ i. IsOutcome plan.work i outcome) (same_inputs status ends all) is

@@ -13,7 +13,7 @@ use Rattle.xsk_cli.specs.Streams.{HasLine, IsAtOnce, IsSilent, refusal_status}
 use Rattle.xsk_cli.specs.declared.failure.ReadFailure.{ReadFailure}
 use Rattle.xsk_cli.specs.declared.failure.ReadFailure.TheVariants.{Unopened as NoInput, Unread, TooLong, OutOfMemory as NoRoom}
 use Rattle.xsk_cli.specs.declared.failure.RunFailure.{RunFailure}
-use Rattle.xsk_cli.specs.declared.failure.RunFailure.TheVariants.{BadCapture as Bad, TooMuch as Excessive, Stalled as Stalls, Explained, OutOfMemory as NoMemory, NotLegal as Breaks, BadPcapng as BadFile}
+use Rattle.xsk_cli.specs.declared.failure.RunFailure.TheVariants.{BadCapture as Bad, TooMuch as Excessive, Stalled as Stalls, Explained, OutOfMemory as NoMemory, NotLegal as Breaks, Reasoned, BadPcapng as BadFile}
 use Rattle.xsk_cli.specs.declared.failure.WriteFailure.{WriteFailure}
 use Rattle.xsk_cli.specs.declared.failure.WriteFailure.TheVariants.{Unopened, Unwritten}
 use Rattle.xsk_cli.specs.declared.status.Status.{Status}
@@ -34,6 +34,7 @@ run_begun (Stalls round) at_once = at_once
 run_begun (Explained round text) at_once = at_once
 run_begun NoMemory at_once = at_once
 run_begun (Breaks line) at_once = at_once
+run_begun (Reasoned line text) at_once = at_once
 run_begun (BadFile cause) at_once = at_once
 
 pub write_begun : (failure : WriteFailure) → IsAtOnce (write_status failure) → ⊥
@@ -59,6 +60,7 @@ run_caused old new (Stalls round) = tt
 run_caused old new (Explained round text) = tt
 run_caused old new NoMemory = tt
 run_caused old new (Breaks line) = tt
+run_caused old new (Reasoned line text) = tt
 run_caused old new (BadFile cause) = tt
 
 -- a fault that was told is one since an earlier moment too

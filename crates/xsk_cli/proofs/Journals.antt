@@ -97,7 +97,7 @@ reports_within text zero below short = short
 reports_within text (suc port) below short = absurd (omega (arith, below))
 
 pub reports_are_legal : ReportsAreLegal
-reports_are_legal format layout programs wire manner order lists texts are short =
+reports_are_legal format layout programs wire manner order lists texts why are short =
     let s = setting_of layout programs wire manner lists in
     let c = regular_of layout in
     let n = length are.ended.history in

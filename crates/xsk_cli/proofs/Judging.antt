@@ -16,7 +16,7 @@ use Rattle.xsk_cli.specs.Judged.{bytes_of, AreShort, AreCaptures, packets_in, by
 use Rattle.xsk_cli.specs.Outcome.{listed}
 use Rattle.xsk_cli.specs.Steps.{AreUntaken, IsRefusal, lists_in}
 use Rattle.xsk_cli.specs.declared.failure.RunFailure.{RunFailure}
-use Rattle.xsk_cli.specs.declared.failure.RunFailure.TheVariants.{BadCapture as Bad, TooMuch as Excessive, Stalled as Stalls, Explained, OutOfMemory as NoMemory, NotLegal as Breaks, BadPcapng as BadFile}
+use Rattle.xsk_cli.specs.declared.failure.RunFailure.TheVariants.{BadCapture as Bad, TooMuch as Excessive, Stalled as Stalls, Explained, OutOfMemory as NoMemory, NotLegal as Breaks, Reasoned, BadPcapng as BadFile}
 use Rattle.xsk_cli.proofs.Ports.{push_each, small_sum}
 
 -- the first inputs are captures, and these are the lists of their packets
@@ -48,6 +48,7 @@ refusal_makes inputs lists n (Excessive excess) have known short h = absurd h
 refusal_makes inputs lists n (Stalls round) have known short h = absurd h
 refusal_makes inputs lists n (Explained round text) have known short h = absurd h
 refusal_makes inputs lists n (Breaks line) have known short h = absurd h
+refusal_makes inputs lists n (Reasoned line text) have known short h = absurd h
 refusal_makes inputs lists n NoMemory have known short h = tt
 refusal_makes inputs lists n (BadFile cause) have known short h = absurd h
 

@@ -18,7 +18,7 @@ use Rattle.xsk_cli.specs.Steps.{AreUntaken, FailsAudit, FailsMaking, FailsRunnin
 use Rattle.xsk_cli.specs.declared.texts.Texts.{Texts}
 use Rattle.xsk_cli.specs.Words.{fault_in, most_of}
 use Rattle.xsk_cli.specs.declared.failure.RunFailure.{RunFailure}
-use Rattle.xsk_cli.specs.declared.failure.RunFailure.TheVariants.{BadCapture as Bad, TooMuch as Excessive, Stalled as Stalls, Explained, OutOfMemory as NoMemory, NotLegal as Breaks, BadPcapng as BadFile}
+use Rattle.xsk_cli.specs.declared.failure.RunFailure.TheVariants.{BadCapture as Bad, TooMuch as Excessive, Stalled as Stalls, Explained, OutOfMemory as NoMemory, NotLegal as Breaks, Reasoned, BadPcapng as BadFile}
 use Rattle.xsk_cli.specs.declared.format.Format.{Format}
 use Rattle.xsk_cli.specs.declared.format.Format.TheVariants.{Pcap, Pcapng}
 use Rattle.xsk_cli.proofs.Ports.{more_ports}
@@ -37,7 +37,7 @@ few_read (Simulate layout programs wire manner order None telling Pcap) accepted
 few_read (Simulate layout programs wire manner order None telling Pcapng) accepted = omega arith
 few_read (Simulate layout programs wire manner order (Some number) telling format) accepted = omega arith
 few_read (Generate number) accepted = omega arith
-few_read (Audit layout) accepted = omega arith
+few_read (Audit layout why) accepted = omega arith
 
 -- ---- limits
 
@@ -91,6 +91,7 @@ untaken_makes layout programs wire manner order telling inputs (Stalls round) h 
 untaken_makes layout programs wire manner order telling inputs (Explained round text) h = absurd h
 untaken_makes layout programs wire manner order telling inputs NoMemory h = h
 untaken_makes layout programs wire manner order telling inputs (Breaks line) h = absurd h
+untaken_makes layout programs wire manner order telling inputs (Reasoned line text) h = absurd h
 untaken_makes layout programs wire manner order telling inputs (BadFile cause) h = absurd h
 
 pub file_makes : (layout : Layout) (programs : List Program) (wire : Wire) (manner : Manner) (order : ℕ) (telling : Telling) (inputs : List (List ℕ)) (failure : RunFailure) → IsUntaken layout.ports inputs failure → MakesNone (Simulate layout programs wire manner order None telling Pcapng) inputs failure
@@ -100,6 +101,7 @@ file_makes layout programs wire manner order telling inputs (Stalls round) h = a
 file_makes layout programs wire manner order telling inputs (Explained round text) h = absurd h
 file_makes layout programs wire manner order telling inputs NoMemory h = h
 file_makes layout programs wire manner order telling inputs (Breaks line) h = absurd h
+file_makes layout programs wire manner order telling inputs (Reasoned line text) h = absurd h
 file_makes layout programs wire manner order telling inputs (BadFile cause) h = h
 
 pub none_of : {X : Type 0} (xs : List X) → length xs ≡ 0 → xs ≡ []
@@ -112,11 +114,11 @@ made_outcome work number inputs texts is none are = subst (λ (w : Work). IsOutc
     ((λ port below. absurd (omega (arith, below, none))), (made_lists number 1, (none_of inputs none, refl), (made_within number 1 (omega arith), are)))
 
 -- those of an audit are that of the inputs
-pub audit_made : (answer : Result Texts RunFailure) (work : Work) (layout : Layout) (inputs : List (List ℕ)) → work ≡ Audit layout → AreShort (most_of work) inputs (length inputs)
+pub audit_made : (answer : Result Texts RunFailure) (work : Work) (layout : Layout) (why : Bool) (inputs : List (List ℕ)) → work ≡ Audit layout why → AreShort (most_of work) inputs (length inputs)
     → IfOk answer (λ texts. IsAudited layout (bytes_of inputs 0) (made (written_in [] texts))) → IfOk answer (λ texts. IsOutcome work inputs (made (written_in [] texts)))
-audit_made (Ok texts) work layout inputs is within h =
+audit_made (Ok texts) work layout why inputs is within h =
     subst (λ (w : Work). IsOutcome w inputs (made (written_in [] texts))) (sym is) (subst (λ (w : Work). AreShort (most_of w) inputs (length inputs)) is within, h)
-audit_made (Err failure) work layout inputs is within h = tt
+audit_made (Err failure) work layout why inputs is within h = tt
 
 pub making_fails : (work : Work) (inputs : List (List ℕ)) (lists : List (List (List ℕ))) (failure : RunFailure) → AreShort (most_of work) inputs (length inputs) → AreListsOf work inputs lists → excess_of lists ≡ None
     → FailsMaking work lists failure → MakesNone work inputs failure
@@ -126,6 +128,7 @@ making_fails work inputs lists (Stalls round) short are within h = (short, (list
 making_fails work inputs lists (Explained round text) short are within h = (h.0, (short, (lists, are, (within, h.1))), h.2)
 making_fails work inputs lists NoMemory short are within h = tt
 making_fails work inputs lists (Breaks line) short are within h = absurd h
+making_fails work inputs lists (Reasoned line text) short are within h = absurd h
 making_fails work inputs lists (BadFile cause) short are within h = absurd h
 
 -- one list more
@@ -145,25 +148,26 @@ made_more number port lists list all are bare is pushed =
 pub packets_made : (work : Work) (inputs : List (List ℕ)) (lists : List (List (List ℕ))) (texts : Written) → AreListsOf work inputs lists → excess_of lists ≡ None → AreTextsBy work lists texts → AreMadeOf work inputs texts
 packets_made (Simulate layout programs wire manner order number telling format) inputs lists texts are within is = (lists, are, (within, is))
 packets_made (Generate number) inputs lists texts are within is = (lists, are, (within, is))
-packets_made (Audit layout) inputs lists texts are within is = absurd are
+packets_made (Audit layout why) inputs lists texts are within is = absurd are
 
 -- an answer with such a failure
 pub answer_makes : {A : Type 0} (answer : Result A RunFailure) (failure : RunFailure) (work : Work) (inputs : List (List ℕ)) → answer ≡ Err failure → MakesNone work inputs failure → IfErr answer (MakesNone work inputs)
 answer_makes answer failure work inputs is makes = subst (λ r. IfErr r (MakesNone work inputs)) (sym is) makes
 
 -- why an audit gives nothing
-audit_fails : (layout : Layout) (inputs : List (List ℕ)) (failure : RunFailure) → AreShort (most_of (Audit layout)) inputs (length inputs) → FailsAudit layout (bytes_of inputs 0) failure → MakesNone (Audit layout) inputs failure
-audit_fails layout inputs (Bad at cause) within h = absurd h
-audit_fails layout inputs (BadFile cause) within h = absurd h
-audit_fails layout inputs (Excessive excess) within h = absurd h
-audit_fails layout inputs (Stalls round) within h = absurd h
-audit_fails layout inputs (Explained round text) within h = absurd h
-audit_fails layout inputs NoMemory within h = tt
-audit_fails layout inputs (Breaks line) within h = (within, h)
+audit_fails : (layout : Layout) (why : Bool) (inputs : List (List ℕ)) (failure : RunFailure) → AreShort (most_of (Audit layout why)) inputs (length inputs) → FailsAudit why layout (bytes_of inputs 0) failure → MakesNone (Audit layout why) inputs failure
+audit_fails layout why inputs (Bad at cause) within h = absurd h
+audit_fails layout why inputs (BadFile cause) within h = absurd h
+audit_fails layout why inputs (Excessive excess) within h = absurd h
+audit_fails layout why inputs (Stalls round) within h = absurd h
+audit_fails layout why inputs (Explained round text) within h = absurd h
+audit_fails layout why inputs NoMemory within h = tt
+audit_fails layout why inputs (Breaks line) within h = ((within, h.0), h.1)
+audit_fails layout why inputs (Reasoned line text) within h = (h.0, ((within, h.1.0), h.1.1), h.2)
 
-pub audit_makes : {A : Type 0} (answer : Result A RunFailure) (layout : Layout) (inputs : List (List ℕ)) → AreShort (most_of (Audit layout)) inputs (length inputs) → IfErr answer (FailsAudit layout (bytes_of inputs 0)) → IfErr answer (MakesNone (Audit layout) inputs)
-audit_makes (Ok texts) layout inputs within h = tt
-audit_makes (Err failure) layout inputs within h = audit_fails layout inputs failure within h
+pub audit_makes : {A : Type 0} (answer : Result A RunFailure) (layout : Layout) (why : Bool) (inputs : List (List ℕ)) → AreShort (most_of (Audit layout why)) inputs (length inputs) → IfErr answer (FailsAudit why layout (bytes_of inputs 0)) → IfErr answer (MakesNone (Audit layout why) inputs)
+audit_makes (Ok texts) layout why inputs within h = tt
+audit_makes (Err failure) layout why inputs within h = audit_fails layout why inputs failure within h
 
 -- a run that gives nothing, as its work gives nothing
 pub run_makes : {A : Type 0} (layout : Layout) (programs : List Program) (wire : Wire) (manner : Manner) (order : ℕ) (number : Option ℕ) (telling : Telling) (format : Format) (lists : List (List (List ℕ)))
@@ -175,4 +179,5 @@ run_makes layout programs wire manner order number telling format lists (Err NoM
 run_makes layout programs wire manner order number telling format lists (Err (Bad port cause)) fails = absurd fails
 run_makes layout programs wire manner order number telling format lists (Err (Excessive excess)) fails = absurd fails
 run_makes layout programs wire manner order number telling format lists (Err (Breaks line)) fails = absurd fails
+run_makes layout programs wire manner order number telling format lists (Err (Reasoned line text)) fails = absurd fails
 run_makes layout programs wire manner order number telling format lists (Err (BadFile cause)) fails = absurd fails

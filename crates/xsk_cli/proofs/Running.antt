@@ -78,9 +78,12 @@ use Rattle.xsk_cli.specs.declared.format.Format.{Format}
 use Rattle.xsk_stats.specs.Report.{report_text}
 use Rattle.xsk_cli.specs.Outcome.{Written, listed, setting_of, verdicts_by, frames_of, sent_on, sent_from, going_on, going_back, rules_by, report_of, told_of, AreTextsIn, AreTextsOf, NoneGoesBack, sent_on_by}
 use Rattle.xsk_cli.specs.Stalls.{IsStall, told_of_stall, told_on}
+use Rattle.xsk_sim.specs.SoFar.{all_counters}
+use Rattle.xsk_stats.specs.Counters.{counters_text}
+use Rattle.xsk_turns.specs.declared.disposal.DriverCounters.{DriverCounters}
 use Rattle.xsk_cli.specs.Steps.{FailsRunning, IsExplained, IsStallText, lists_in, sim_failure}
 use Rattle.xsk_cli.specs.declared.failure.RunFailure.{RunFailure}
-use Rattle.xsk_cli.specs.declared.failure.RunFailure.TheVariants.{BadCapture as Bad, TooMuch as Excessive, Stalled as Stalls, Explained, OutOfMemory as NoMemory, NotLegal as Breaks, BadPcapng as BadFile}
+use Rattle.xsk_cli.specs.declared.failure.RunFailure.TheVariants.{BadCapture as Bad, TooMuch as Excessive, Stalled as Stalls, Explained, OutOfMemory as NoMemory, NotLegal as Breaks, Reasoned, BadPcapng as BadFile}
 use Rattle.xsk_cli.specs.declared.words.Telling.{Telling}
 use Rattle.xsk_cli.proofs.Going.{bounced_goes_back, classes_are, expected_goes_on, are_exact_by, packets_there}
 use Rattle.xsk_cli.proofs.Judging.{limits_of}
@@ -360,17 +363,18 @@ unasked true e = absurd (cc)
 unasked false e = refl
 
 -- nothing is told where nothing was asked for
-none_told : (telling : Telling) (c : Config) (rings : List Part) (h : List Entry) → telling.why ≡ false → told_on telling c rings h ≡ []
-none_told telling c rings h none =
-    subst (λ (asked : Bool). (if asked then why_text c rings h ++ (if telling.journal then journal_of (length c.pairs) h else []) else []) ≡ []) (sym none) refl
+none_told : (telling : Telling) (c : Config) (rings : List Part) (h : List Entry) (counters : List DriverCounters) → telling.why ≡ false → told_on telling c rings h counters ≡ []
+none_told telling c rings h counters none =
+    subst (λ (asked : Bool). (if asked then why_text c rings h ++ (counters_text c counters ++ (if telling.journal then journal_of (length c.pairs) h else [])) else []) ≡ []) (sym none) refl
 
 -- what is told of the object on which a run stalled is told of its history
-engine_tells : (s : Setting) (frames : List Frame) (h : List Entry) (telling : Telling) (engine : Engine) → HasRun s frames h (logged_seen engine)
-    → told_on telling engine.config engine.rings engine.log ≡ told_of_stall telling s.config frames h
-engine_tells s frames h telling engine run =
-    ap (λ (k : Config). told_on telling k engine.rings engine.log) run.config
-    ∙ ap (λ (parts : List Part). told_on telling s.config parts engine.log) (sym run.shows.rings)
-    ∙ ap (λ (l : List Entry). told_on telling s.config (map seen (state_after s.config frames h).rings) l) (run.log refl)
+engine_tells : (s : Setting) (frames : List Frame) (h : List Entry) (telling : Telling) (engine : Engine) (counters : List DriverCounters) → HasRun s frames h (logged_seen engine) → counters ≡ all_counters s h
+    → told_on telling engine.config engine.rings engine.log counters ≡ told_of_stall telling s frames h
+engine_tells s frames h telling engine counters run counted =
+    ap (λ (k : Config). told_on telling k engine.rings engine.log counters) run.config
+    ∙ ap (λ (parts : List Part). told_on telling s.config parts engine.log counters) (sym run.shows.rings)
+    ∙ ap (λ (l : List Entry). told_on telling s.config (map seen (state_after s.config frames h).rings) l counters) (run.log refl)
+    ∙ ap (told_on telling s.config (map seen (state_after s.config frames h).rings) (stored s.config.geometry s.config.sg h)) counted
 
 -- a run of the code's configuration, lists and frames
 stall_as : (layout : Layout) (programs : List Program) (wire : Wire) (manner : Manner) (order : ℕ) (c : Config) (own : List PacketList) (fs : List Frame) (lists : List (List (List ℕ))) (round : ℕ) (telling : Telling) (told : List ℕ)
@@ -409,34 +413,36 @@ module _ {F : Type 0} (g : Shared F (Bor (List ℕ) × (ℕ × Unit {0})) Verdic
       let under = stalled round refl in
       let stall : IsStall (setting_by c wire manner own under.verdicts) fs order round telling [] = record {
         stalled = under.stalled;
-        tells = sym (none_told telling c (map seen (state_after c fs under.stalled.past.history).rings) (stored c.geometry c.sg under.stalled.past.history) none);
+        tells = sym (none_told telling c (map seen (state_after c fs under.stalled.past.history).rings) (stored c.geometry c.sg under.stalled.past.history)
+            (all_counters (setting_by c wire manner own under.verdicts) under.stalled.past.history) none);
       } in
       stall_as layout programs wire manner order c own fs lists round telling [] is_config is_own is_frames under.verdicts (ruled under.verdicts under.asked) stall
   failed_under after telling RunMemory none stalled = tt
 
   -- or more is, of the object on which it stalled
-  stalled_under : (after : List (XdpProgram F)) (telling : Telling) (round : ℕ) (engine : Engine) (told : List ℕ) → HasStalledOnUnder g chain after wire manner c own fs order round (logged_seen engine)
-      → told_on telling engine.config engine.rings engine.log ≡ told → IsStall (setting_of layout programs wire manner lists) (frames_of layout) order round telling told
-  stalled_under after telling round engine told on is =
+  stalled_under : (after : List (XdpProgram F)) (telling : Telling) (round : ℕ) (engine : Engine) (counters : List DriverCounters) (told : List ℕ) → HasStalledOnUnder g chain after wire manner c own fs order round (logged_seen engine) counters
+      → told_on telling engine.config engine.rings engine.log counters ≡ told → IsStall (setting_of layout programs wire manner lists) (frames_of layout) order round telling told
+  stalled_under after telling round engine counters told on is =
       let under = on.under in
       let stall : IsStall (setting_by c wire manner own under.verdicts) fs order round telling told = record {
         stalled = under.stalled;
-        tells = sym is ∙ engine_tells (setting_by c wire manner own under.verdicts) fs under.stalled.past.history telling engine on.run;
+        tells = sym is ∙ engine_tells (setting_by c wire manner own under.verdicts) fs under.stalled.past.history telling engine counters on.run on.counted;
       } in
       stall_as layout programs wire manner order c own fs lists round telling told is_config is_own is_frames under.verdicts (ruled under.verdicts under.asked) stall
 
-  pub explained_under : (after : List (XdpProgram F)) (telling : Telling) (round : ℕ) (engine : Engine) (failure : RunFailure) → HasStalledOnUnder g chain after wire manner c own fs order round (logged_seen engine)
-      → IsExplained telling round engine failure → FailsRunning layout programs wire manner order telling lists failure
-  explained_under after telling round engine (Stalls at) on is =
-      subst (λ (n : ℕ). IsStall (setting_of layout programs wire manner lists) (frames_of layout) order n telling []) (sym is.0) (stalled_under after telling round engine [] on is.1)
-  explained_under after telling round engine (Explained at text) on is =
-      let told = told_on telling engine.config engine.rings engine.log in (
+  pub explained_under : (after : List (XdpProgram F)) (telling : Telling) (round : ℕ) (engine : Engine) (counters : List DriverCounters) (failure : RunFailure) → HasStalledOnUnder g chain after wire manner c own fs order round (logged_seen engine) counters
+      → IsExplained telling round engine counters failure → FailsRunning layout programs wire manner order telling lists failure
+  explained_under after telling round engine counters (Stalls at) on is =
+      subst (λ (n : ℕ). IsStall (setting_of layout programs wire manner lists) (frames_of layout) order n telling []) (sym is.0) (stalled_under after telling round engine counters [] on is.1)
+  explained_under after telling round engine counters (Explained at text) on is =
+      let told = told_on telling engine.config engine.rings engine.log counters in (
         told,
-        subst (λ (n : ℕ). IsStall (setting_of layout programs wire manner lists) (frames_of layout) order n telling told) (sym is.0) (stalled_under after telling round engine told on refl),
+        subst (λ (n : ℕ). IsStall (setting_of layout programs wire manner lists) (frames_of layout) order n telling told) (sym is.0) (stalled_under after telling round engine counters told on refl),
         subst (λ (n : ℕ). IsStallText n told text.items) (sym is.0) is.1,
       )
-  explained_under after telling round engine NoMemory on is = tt
-  explained_under after telling round engine (Bad port cause) on is = absurd is
-  explained_under after telling round engine (Excessive excess) on is = absurd is
-  explained_under after telling round engine (Breaks line) on is = absurd is
-  explained_under after telling round engine (BadFile cause) on is = absurd is
+  explained_under after telling round engine counters NoMemory on is = tt
+  explained_under after telling round engine counters (Bad port cause) on is = absurd is
+  explained_under after telling round engine counters (Excessive excess) on is = absurd is
+  explained_under after telling round engine counters (Breaks line) on is = absurd is
+  explained_under after telling round engine counters (Reasoned line text) on is = absurd is
+  explained_under after telling round engine counters (BadFile cause) on is = absurd is

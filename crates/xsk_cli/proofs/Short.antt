@@ -40,7 +40,7 @@ all_short (Simulate layout programs wire manner order None telling Pcap) inputs 
 all_short (Simulate layout programs wire manner order None telling Pcapng) inputs lists are = filed_short layout.ports inputs lists are
 all_short (Simulate layout programs wire manner order (Some number) telling format) inputs lists are = subst AllShort (sym are.1) (made_short number layout.ports)
 all_short (Generate number) inputs lists are = subst AllShort (sym are.1) (made_short number 1)
-all_short (Audit layout) inputs lists are = absurd are
+all_short (Audit layout why) inputs lists are = absurd are
 
 pub short_lists : (work : Work) (inputs : List (List ℕ)) (lists : List PacketList) → AreListsOf work inputs (lists_in lists) → All HasShortPackets lists
 short_lists work inputs lists are port d below =

@@ -23,7 +23,7 @@ use Rattle.xsk_cli.specs.declared.format.Format.TheVariants.{Pcap, Pcapng}
 use Rattle.xsk_cli.specs.declared.failure.ReadFailure.{ReadFailure}
 use Rattle.xsk_cli.specs.declared.failure.ReadFailure.TheVariants.{Unopened as NoInput, Unread, TooLong, OutOfMemory as NoRoom}
 use Rattle.xsk_cli.specs.declared.failure.RunFailure.{RunFailure}
-use Rattle.xsk_cli.specs.declared.failure.RunFailure.TheVariants.{BadCapture as Bad, TooMuch as Excessive, Stalled as Stalls, Explained, OutOfMemory as NoMemory, NotLegal as Breaks, BadPcapng as BadFile}
+use Rattle.xsk_cli.specs.declared.failure.RunFailure.TheVariants.{BadCapture as Bad, TooMuch as Excessive, Stalled as Stalls, Explained, OutOfMemory as NoMemory, NotLegal as Breaks, Reasoned, BadPcapng as BadFile}
 use Rattle.xsk_cli.specs.Line.{line_of}
 use Rattle.xsk_cli.specs.declared.failure.Refusal.TheVariants.{Bare}
 use Rattle.xsk_cli.specs.declared.threads.Ended.{Ended}
@@ -182,14 +182,14 @@ written_comes work inputs o texts is old (BadPcapng cause) has = absurd has
 pub shown_count : (work : Work) (lists : List (List (List ℕ))) (o : OutcomeShown) (texts : Written) → AreTextsFrom work lists o texts → length texts.outputs ≡ written_by work
 shown_count (Simulate layout programs wire manner order number telling format) lists o texts are = ap length are.sent ∙ count_texts format (sent_from layout programs lists o.history) layout.ports
 shown_count (Generate number) lists o texts are = absurd are
-shown_count (Audit layout) lists o texts are = absurd are
+shown_count (Audit layout why) lists o texts are = absurd are
 
 -- for few ports
 pub few_written : (work : Work) → fault_in work ≡ None → written_by work ≤ 4
 few_written (Simulate layout programs wire manner order number telling Pcap) accepted = few_ports layout accepted
 few_written (Simulate layout programs wire manner order number telling Pcapng) accepted = omega arith
 few_written (Generate number) accepted = omega arith
-few_written (Audit layout) accepted = omega arith
+few_written (Audit layout why) accepted = omega arith
 
 -- ---- what a run on threads comes to
 
@@ -203,6 +203,7 @@ none_come_shown work inputs (Stalls round) h before = absurd before
 none_come_shown work inputs (Explained round text) h before = absurd before
 none_come_shown work inputs NoMemory h before = λ old. ((λ no. no), tt)
 none_come_shown work inputs (Breaks line) h before = λ old. ((λ no. no), h)
+none_come_shown work inputs (Reasoned line text) h before = (h.0, h.2, λ old. ((λ no. no), h.1))
 none_come_shown work inputs (BadFile cause) h before = λ old. ((λ no. no), h)
 
 -- no memory for the run, or for its texts

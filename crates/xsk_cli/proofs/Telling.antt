@@ -3,15 +3,17 @@ use Rattle.std.proofs.Common.{◌≡◌, ℕ, List, [], ◌++◌, refl, sym, ap,
 use Rattle.xsk_io.specs.Bay.{Moment}
 use Rattle.xsk_workers.specs.Forwarded.{OutcomeShown}
 use Rattle.xsk_cli.specs.Ends.{EndsBy, TellsBy, behind}
-use Rattle.xsk_cli.specs.Forward.{ComesShown}
+use Rattle.xsk_cli.specs.Forward.{ComesShown, IsRun}
 use Rattle.xsk_cli.specs.Line.{line_of}
-use Rattle.xsk_cli.specs.Outcome.{Written}
+use Rattle.xsk_cli.specs.Outcome.{Written, IsIllegalIn}
 use Rattle.xsk_cli.specs.Steps.{read_status, write_status}
 use Rattle.xsk_cli.specs.Words.{Plan}
 use Rattle.xsk_cli.specs.declared.failure.ReadFailure.{ReadFailure}
 use Rattle.xsk_cli.specs.declared.failure.ReadFailure.TheVariants.{Unopened as NoInput, Unread, TooLong, OutOfMemory as NoRoom}
 use Rattle.xsk_cli.specs.declared.failure.WriteFailure.{WriteFailure}
 use Rattle.xsk_cli.specs.declared.failure.WriteFailure.TheVariants.{Unopened, Unwritten}
+use Rattle.xsk_cli.specs.declared.words.Work.{Work}
+use Rattle.xsk_cli.specs.declared.words.Work.TheVariants.{Simulate, Generate, Audit}
 use Rattle.xsk_cli.specs.declared.status.Status.{Status}
 use Rattle.xsk_cli.specs.declared.status.Status.TheVariants.{Done, Usage, BadCapture, ReadFault, WriteFault, OpenFault, Refused, Stalled, TooMuch, OutOfMemory, NotLegal, BadPcapng}
 
@@ -29,22 +31,28 @@ pub write_bare : (failure : WriteFailure) (texts : Written) → behind (write_st
 write_bare (Unopened port) texts = refl
 write_bare (Unwritten stream) texts = refl
 
--- no run on threads stalls
-pub shown_bare : (plan : Plan) (old new : Moment) (shown : Option OutcomeShown) (status : Status) → (ends : EndsBy (ComesShown plan.work shown) plan old new status) → behind status ends.texts ≡ []
-shown_bare plan old new (Some o) (Stalled round) ends = absurd ends.comes
-shown_bare plan old new None (Stalled round) ends = absurd (ends.comes.0 tt)
-shown_bare plan old new shown Done ends = refl
-shown_bare plan old new shown Usage ends = refl
-shown_bare plan old new shown (BadCapture port cause) ends = refl
-shown_bare plan old new shown (ReadFault port) ends = refl
-shown_bare plan old new shown (WriteFault stream) ends = refl
-shown_bare plan old new shown (OpenFault stream) ends = refl
-shown_bare plan old new shown (Refused unlawful) ends = refl
-shown_bare plan old new shown (TooMuch excess) ends = refl
-shown_bare plan old new shown OutOfMemory ends = refl
-shown_bare plan old new shown (NotLegal line) ends = refl
-shown_bare plan old new shown (BadPcapng cause) ends = refl
+-- no run on threads stalls, and none is an audit
+no_journal : (work : Work) (inputs : List (List ℕ)) (line : ℕ) → IsIllegalIn work inputs line → IsRun work → ⊥
+no_journal (Simulate layout programs wire manner order number telling format) inputs line is run = is
+no_journal (Generate number) inputs line is run = is
+no_journal (Audit layout why) inputs line is run = run
+
+pub shown_bare : (plan : Plan) (old new : Moment) (shown : Option OutcomeShown) (status : Status) → IsRun plan.work → (ends : EndsBy (ComesShown plan.work shown) plan old new status) → behind status ends.texts ≡ []
+shown_bare plan old new (Some o) (Stalled round) run ends = absurd ends.comes
+shown_bare plan old new None (Stalled round) run ends = absurd (ends.comes.0 tt)
+shown_bare plan old new shown Done run ends = refl
+shown_bare plan old new shown Usage run ends = refl
+shown_bare plan old new shown (BadCapture port cause) run ends = refl
+shown_bare plan old new shown (ReadFault port) run ends = refl
+shown_bare plan old new shown (WriteFault stream) run ends = refl
+shown_bare plan old new shown (OpenFault stream) run ends = refl
+shown_bare plan old new shown (Refused unlawful) run ends = refl
+shown_bare plan old new shown (TooMuch excess) run ends = refl
+shown_bare plan old new shown OutOfMemory run ends = refl
+shown_bare plan old new (Some o) (NotLegal line) run ends = absurd ends.comes
+shown_bare plan old new None (NotLegal line) run ends = absurd (no_journal plan.work ends.inputs line ends.comes.1.0.1 run)
+shown_bare plan old new shown (BadPcapng cause) run ends = refl
 
 -- so of one the line is told alone
-pub told_shown : (plan : Plan) (old new : Moment) (shown : Option OutcomeShown) (status : Status) (text : List ℕ) → TellsBy (ComesShown plan.work shown) plan old new status text → TellsBy (ComesShown plan.work shown) plan old new status (line_of status)
-told_shown plan old new shown status text tells = bare (ComesShown plan.work shown) plan old new status tells.0 (shown_bare plan old new shown status tells.0)
+pub told_shown : (plan : Plan) (old new : Moment) (shown : Option OutcomeShown) (status : Status) (text : List ℕ) → IsRun plan.work → TellsBy (ComesShown plan.work shown) plan old new status text → TellsBy (ComesShown plan.work shown) plan old new status (line_of status)
+told_shown plan old new shown status text run tells = bare (ComesShown plan.work shown) plan old new status tells.0 (shown_bare plan old new shown status run tells.0)

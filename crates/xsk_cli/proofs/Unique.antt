@@ -100,7 +100,7 @@ pub same_packets : (work : Work) (inputs : List (List ℕ)) (some others : List 
 same_packets (Simulate layout programs wire manner order None telling format) inputs some others a b = same_files format layout.ports inputs some others a b
 same_packets (Simulate layout programs wire manner order (Some number) telling format) inputs some others a b = a.1 ∙ sym b.1
 same_packets (Generate number) inputs some others a b = a.1 ∙ sym b.1
-same_packets (Audit layout) inputs some others a b = absurd a
+same_packets (Audit layout why) inputs some others a b = absurd a
 
 -- where nothing is read nothing is refused
 pub none_bad : (format : Format) (inputs : List (List ℕ)) (p : ℕ) (c : Cause) → inputs ≡ [] → HasBadCapture format inputs p c → ⊥
@@ -115,13 +115,13 @@ pub bad_not_packets : (work : Work) (inputs : List (List ℕ)) (p : ℕ) (c : Ca
 bad_not_packets (Simulate layout programs wire manner order None telling format) inputs p c lists a b = bad_not_files format layout.ports inputs p c lists a b
 bad_not_packets (Simulate layout programs wire manner order (Some number) telling format) inputs p c lists a b = none_bad format inputs p c b.0 a
 bad_not_packets (Generate number) inputs p c lists a b = none_bad Pcap inputs p c b.0 a
-bad_not_packets (Audit layout) inputs p c lists a b = b
+bad_not_packets (Audit layout why) inputs p c lists a b = b
 
 pub bad_file_not_packets : (work : Work) (inputs : List (List ℕ)) (c : FileCause) (lists : List (List (List ℕ))) → HasBadFile (format_in work) (ports_in work) inputs c → AreListsOf work inputs lists → ⊥
 bad_file_not_packets (Simulate layout programs wire manner order None telling format) inputs c lists a b = bad_file_not_files format layout.ports inputs c lists a b
 bad_file_not_packets (Simulate layout programs wire manner order (Some number) telling format) inputs c lists a b = none_bad_file format layout.ports inputs c b.0 a
 bad_file_not_packets (Generate number) inputs c lists a b = a
-bad_file_not_packets (Audit layout) inputs c lists a b = a
+bad_file_not_packets (Audit layout why) inputs c lists a b = a
 
 -- ---- runs
 
@@ -143,7 +143,7 @@ same_written a b outputs report =
 one_made : (work : Work) (lists : List (List (List ℕ))) (a b : Written) → AreTextsBy work lists a → AreTextsBy work lists b → made a ≡ made b
 one_made (Simulate layout programs wire manner order number telling format) lists a b s t = same_written a b (same_outputs format layout programs wire manner order lists telling.journal a b s t) (same_report format layout programs wire manner order lists telling.journal a b s t)
 one_made (Generate number) lists a b s t = same_written a b (s.0 ∙ sym t.0) (s.1 ∙ sym t.1)
-one_made (Audit layout) lists a b s t = absurd s
+one_made (Audit layout why) lists a b s t = absurd s
 
 -- one round, of which one thing is told
 same_stall : (s : Setting) (frames : List Frame) (order : ℕ) (telling : Telling) (r q : ℕ) (a b : List ℕ) → IsStall s frames order r telling a → IsStall s frames order q telling b → stalled r a ≡ stalled q b
@@ -152,18 +152,18 @@ same_stall s frames order telling r q a b x y =
     let history : x.stalled.past.history ≡ y.stalled.past.history =
     one_history s frames order (q + 1) x.stalled.past.history y.stalled.past.history
     (subst (λ (n : ℕ). IsRoundHistory s frames order (n + 1) x.stalled.past.history) rounds x.stalled.past.is) y.stalled.past.is in
-    let told : a ≡ b = x.tells ∙ ap (told_of_stall telling s.config frames) history ∙ sym y.tells in
+    let told : a ≡ b = x.tells ∙ ap (told_of_stall telling s frames) history ∙ sym y.tells in
     ap (λ n. stalled n a) rounds ∙ ap (λ t. stalled q t) told
 
 one_stall : (work : Work) (lists : List (List (List ℕ))) (r q : ℕ) (a b : List ℕ) → IsStalledBy work lists r a → IsStalledBy work lists q b → stalled r a ≡ stalled q b
 one_stall (Simulate layout programs wire manner order number telling format) lists r q a b x y = same_stall (setting_of layout programs wire manner lists) (frames_of layout) order telling r q a b x y
 one_stall (Generate number) lists r q a b x y = absurd x
-one_stall (Audit layout) lists r q a b x y = absurd x
+one_stall (Audit layout why) lists r q a b x y = absurd x
 
 no_texts_and_stall : (work : Work) (lists : List (List (List ℕ))) (texts : Written) (r : ℕ) (told : List ℕ) → AreTextsBy work lists texts → IsStalledBy work lists r told → ⊥
 no_texts_and_stall (Simulate layout programs wire manner order number telling format) lists texts r told t x = ends_or_stalls (setting_of layout programs wire manner lists) (frames_of layout) order r t.run t.ended x.stalled
 no_texts_and_stall (Generate number) lists texts r told t x = x
-no_texts_and_stall (Audit layout) lists texts r told t x = x
+no_texts_and_stall (Audit layout why) lists texts r told t x = x
 
 pub none_some : {A : Type 0} (excess : Option Excess) (e : Excess) → excess ≡ Some e → excess ≡ None → A
 none_some excess e is none = let no = sym is ∙ none in absurd cc
@@ -239,17 +239,17 @@ data Later (work : Work) (inputs : List (List ℕ)) (outcome : Outcome) : Type 0
   is_bad : (port : ℕ) (cause : Cause) → outcome ≡ bad port cause → HasBadCapture (format_in work) inputs port cause → IsOnPackets work → Later work inputs outcome
   is_bad_file : (cause : FileCause) → outcome ≡ bad_file cause → HasBadFile (format_in work) (ports_in work) inputs cause → Later work inputs outcome
   is_in : IsOutcomeIn work inputs outcome → Later work inputs outcome
-  is_found : (layout : Layout) → work ≡ Audit layout → IsAudited layout (bytes_of inputs 0) outcome → Later work inputs outcome
+  is_found : (layout : Layout) (why : Bool) → work ≡ Audit layout why → IsAudited layout (bytes_of inputs 0) outcome → Later work inputs outcome
 
 made_later : (work : Work) (inputs : List (List ℕ)) (t : Written) → AreMadeOf work inputs t → Later work inputs (made t)
 made_later (Simulate layout programs wire manner order number telling format) inputs t h = is_in h
 made_later (Generate number) inputs t h = is_in h
-made_later (Audit layout) inputs t h = is_found layout refl h
+made_later (Audit layout why) inputs t h = is_found layout why refl h
 
 illegal_later : (work : Work) (inputs : List (List ℕ)) (line : ℕ) → IsIllegalIn work inputs line → Later work inputs (illegal line)
 illegal_later (Simulate layout programs wire manner order number telling format) inputs line h = absurd h
 illegal_later (Generate number) inputs line h = absurd h
-illegal_later (Audit layout) inputs line h = is_found layout refl h
+illegal_later (Audit layout why) inputs line h = is_found layout why refl h
 
 later : (work : Work) (inputs : List (List ℕ)) (outcome : Outcome) → IsOutcome work inputs outcome
     → ((p : ℕ) × (outcome ≡ long p) × IsTooLong (most_of work) inputs p) ⊎ (AreShort (most_of work) inputs (length inputs) × Later work inputs outcome)
@@ -262,11 +262,11 @@ later work inputs (made t) h = inr (h.0, made_later work inputs t h.1)
 later work inputs (illegal l) h = inr (h.0, illegal_later work inputs l h.1)
 
 -- what is told of a journal isn't told of packets
-found_not_in : (work : Work) (inputs : List (List ℕ)) (layout : Layout) (outcome : Outcome) → work ≡ Audit layout → IsOutcomeIn work inputs outcome → ⊥
-found_not_in work inputs layout outcome is h = subst (λ w. AreListsOf w inputs h.0) is h.1
+found_not_in : (work : Work) (inputs : List (List ℕ)) (layout : Layout) (why : Bool) (outcome : Outcome) → work ≡ Audit layout why → IsOutcomeIn work inputs outcome → ⊥
+found_not_in work inputs layout why outcome is h = subst (λ w. AreListsOf w inputs h.0) is h.1
 
-same_layout : (layout other : Layout) → Audit layout ≡ Audit other → layout ≡ other
-same_layout layout other e = cc
+same_layout : (layout other : Layout) (why too : Bool) → Audit layout why ≡ Audit other too → layout ≡ other
+same_layout layout other why too e = cc
 
 one_later : (work : Work) (inputs : List (List ℕ)) (a b : Outcome) → Later work inputs a → Later work inputs b → a ≡ b
 one_later work inputs a b (is_bad p c e x on) (is_bad q d f y too) = e ∙ one_bad_capture (format_in work) inputs p q c d x y ∙ sym f
@@ -278,14 +278,14 @@ one_later work inputs a b (is_in x) (is_bad_file d f y) = absurd (bad_file_not_p
 one_later work inputs a b (is_bad p c e x on) (is_in y) = absurd (bad_not_packets work inputs p c y.0 x y.1)
 one_later work inputs a b (is_in x) (is_bad q d f y too) = absurd (bad_not_packets work inputs q d x.0 y x.1)
 one_later work inputs a b (is_in x) (is_in y) = one_in work inputs a b x y
-one_later work inputs a b (is_bad p c e x on) (is_found l is y) = absurd (subst IsOnPackets is on)
-one_later work inputs a b (is_found l is x) (is_bad q d f y too) = absurd (subst IsOnPackets is too)
-one_later work inputs a b (is_bad_file c e x) (is_found l is y) = absurd (subst (λ w. HasBadFile (format_in w) (ports_in w) inputs c) is x)
-one_later work inputs a b (is_found l is x) (is_bad_file d f y) = absurd (subst (λ w. HasBadFile (format_in w) (ports_in w) inputs d) is y)
-one_later work inputs a b (is_in x) (is_found l is y) = absurd (found_not_in work inputs l a is x)
-one_later work inputs a b (is_found l is x) (is_in y) = absurd (found_not_in work inputs l b is y)
-one_later work inputs a b (is_found l is x) (is_found m too y) =
-    one_audited m (bytes_of inputs 0) a b (subst (λ k. IsAudited k (bytes_of inputs 0) a) (same_layout l m (sym is ∙ too)) x) y
+one_later work inputs a b (is_bad p c e x on) (is_found l why is y) = absurd (subst IsOnPackets is on)
+one_later work inputs a b (is_found l why is x) (is_bad q d f y too) = absurd (subst IsOnPackets is too)
+one_later work inputs a b (is_bad_file c e x) (is_found l why is y) = absurd (subst (λ w. HasBadFile (format_in w) (ports_in w) inputs c) is x)
+one_later work inputs a b (is_found l why is x) (is_bad_file d f y) = absurd (subst (λ w. HasBadFile (format_in w) (ports_in w) inputs d) is y)
+one_later work inputs a b (is_in x) (is_found l why is y) = absurd (found_not_in work inputs l why a is x)
+one_later work inputs a b (is_found l why is x) (is_in y) = absurd (found_not_in work inputs l why b is y)
+one_later work inputs a b (is_found l why is x) (is_found m other too y) =
+    one_audited m (bytes_of inputs 0) a b (subst (λ k. IsAudited k (bytes_of inputs 0) a) (same_layout l m why other (sym is ∙ too)) x) y
 
 pub one_outcome : OneOutcome
 one_outcome work inputs a b x y = ⊎_elim

@@ -18,7 +18,7 @@ use Rattle.xsk_cli.specs.declared.words.Work.TheVariants.{Simulate, Generate, Au
 use Rattle.std.proofs.lemmas.List.{length-map}
 use Rattle.xsk_cli.specs.Words.{Plan, most_of, ports_in}
 use Rattle.xsk_cli.specs.declared.failure.RunFailure.{RunFailure}
-use Rattle.xsk_cli.specs.declared.failure.RunFailure.TheVariants.{BadCapture as Bad, TooMuch as Excessive, Stalled as Stalls, Explained, OutOfMemory as NoMemory, NotLegal as Breaks, BadPcapng as BadFile}
+use Rattle.xsk_cli.specs.declared.failure.RunFailure.TheVariants.{BadCapture as Bad, TooMuch as Excessive, Stalled as Stalls, Explained, OutOfMemory as NoMemory, NotLegal as Breaks, Reasoned, BadPcapng as BadFile}
 use Rattle.xsk_cli.specs.declared.failure.WriteFailure.{WriteFailure}
 use Rattle.xsk_cli.specs.declared.failure.WriteFailure.TheVariants.{Unopened, Unwritten}
 use Rattle.xsk_cli.specs.declared.status.Excess.TheVariants.{Input as LongInput, Packets, Bytes}
@@ -127,6 +127,8 @@ module _ (plan : Plan) (bytes : List (List ℕ)) (old mid new : Moment) (have : 
   unmade_by Comes (Explained round text) h =
       subst (TellsBy Comes plan old mid (Stalled round)) (sym h.1) (refused_with h.0 Comes (Stalled round) refl tt (λ stream e. cc) (h.2 old) refl)
   unmade_by Comes (Breaks line) h = refused_by Comes (NotLegal line) refl tt (λ stream e. cc) (h old) refl
+  unmade_by Comes (Reasoned line text) h =
+      subst (TellsBy Comes plan old mid (NotLegal line)) (sym h.1) (refused_with h.0 Comes (NotLegal line) refl tt (λ stream e. cc) (h.2 old) refl)
   unmade_by Comes NoMemory h = ran_out_by Comes (h old)
   unmade_by Comes (BadFile cause) h = refused_by Comes (BadPcapng cause) refl tt (λ stream e. cc) (h old) refl
 
@@ -197,6 +199,7 @@ none_come work inputs (Stalls round) h = λ old. h
 none_come work inputs (Explained round text) h = (h.0, h.2, λ old. h.1)
 none_come work inputs NoMemory h = λ old. tt
 none_come work inputs (Breaks line) h = λ old. h
+none_come work inputs (Reasoned line text) h = (h.0, h.2, λ old. h.1)
 none_come work inputs (BadFile cause) h = λ old. h
 
 -- ---- and then the line of a refusal, which changes the report alone
@@ -275,4 +278,4 @@ tells_as Comes Others plan old new status text says tells = (ends_as Comes Other
 pub texts_count : (work : Work) (lists : List (List (List ℕ))) (texts : Written) → AreTextsBy work lists texts → length lists ≡ ports_in work → length texts.outputs ≡ written_by work
 texts_count (Simulate layout programs wire manner order number telling format) lists texts are count = ap length are.are.sent ∙ count_texts format (sent_from layout programs lists are.ended.history) layout.ports
 texts_count (Generate number) lists texts are count = ap length are.0 ∙ length-map lists capture_of ∙ count
-texts_count (Audit layout) lists texts are count = absurd are
+texts_count (Audit layout why) lists texts are count = absurd are

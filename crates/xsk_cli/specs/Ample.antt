@@ -24,7 +24,7 @@ pub record IsAmple (layout : Layout) : Type 0 where
 abbrev pub HasAmple : Work → Type 0
 HasAmple (Simulate layout programs wire manner order number telling format) = (manner ≡ plain) × (layout.close ≡ None) × IsAmple layout
 HasAmple (Generate number) = Unit {0}
-HasAmple (Audit layout) = Unit {0}
+HasAmple (Audit layout why) = Unit {0}
 
 -- no run stalls
 abbrev pub GoesOn : Option Plan → Status → Type 0

@@ -10,6 +10,7 @@ use Rattle.xsk_cli.specs.declared.words.Work.TheVariants.{Simulate, Audit}
 use Rattle.xsk_cli.specs.Judged.{bytes_of, AreShort, excess_of}
 use Rattle.xsk_cli.specs.Outcome.{Written, Outcome, long, bad, passed, stalled, made, illegal, IsOutcome, bad_file}
 use Rattle.xsk_cli.specs.Line.{line_of}
+use Rattle.xsk_cli.specs.Misfit.{IsToldOf}
 use Rattle.xsk_cli.specs.Streams.{IsTold, Reach, Reaches, AreRead, AreWritten, IsReported, name_of, status_in, text_in}
 use Rattle.xsk_cli.specs.declared.failure.Refusal.{Refusal}
 use Rattle.xsk_cli.specs.declared.status.Excess.TheVariants.{Input as TooLong}
@@ -18,7 +19,7 @@ use Rattle.xsk_cli.specs.declared.status.Status.TheVariants.{Done, Usage, BadCap
 use Rattle.xsk_cli.specs.Format.{AreFiles, most_input}
 
 -- the status comes of this work and these inputs: its layout is refused, they were too long or refused, their run stalled, of which
--- the report's text is told, their journal isn't legal, or these are its texts
+-- the report's text is told, their journal isn't legal, of which it is told too, or these are its texts
 abbrev pub ComesOf : Work → List (List ℕ) → Written → Moment → Status → Type 0
 ComesOf work inputs texts old Done = IsOutcome work inputs (made texts)
 ComesOf work inputs texts old (BadCapture port cause) = IsOutcome work inputs (bad port cause)
@@ -28,7 +29,7 @@ ComesOf work inputs texts old (Stalled round) = IsOutcome work inputs (stalled r
 ComesOf work inputs texts old (TooMuch (TooLong port)) = IfSome (old.left (Input port)) (λ bytes. most_of work < length bytes)
 ComesOf work inputs texts old (TooMuch excess) = IsOutcome work inputs (passed excess)
 ComesOf work inputs texts old (Refused unlawful) = fault_in work ≡ Some unlawful
-ComesOf work inputs texts old (NotLegal line) = IsOutcome work inputs (illegal line)
+ComesOf work inputs texts old (NotLegal line) = IsOutcome work inputs (illegal line) × IsToldOf work inputs line texts.report
 ComesOf work inputs texts old (BadPcapng cause) = IsOutcome work inputs (bad_file cause)
 ComesOf work inputs texts old status = Unit {0}
 
@@ -47,9 +48,10 @@ pub record EndsBy (Comes : List (List ℕ) → Written → Moment → Status →
   pub asked : (stream : Stream) → status ≡ OpenFault stream → IsTold (new.asked stream) (name_of plan stream)
   pub comes : Comes inputs texts old status
 
--- what is told behind the line of a status: of a stall
+-- what is told behind the line of a status: of a stall, and of a journal that isn't legal
 abbrev pub behind : Status → Written → List ℕ
 behind (Stalled round) texts = texts.report
+behind (NotLegal line) texts = texts.report
 behind status texts = []
 
 -- it ends so, and this is its line with all that is told behind it
@@ -89,7 +91,7 @@ Answers work outcome status = Unit {0}
 -- files within the limits, where files are read, and so a journal, where one is
 abbrev pub AreTaken : Work → List (List ℕ) → Type 0
 AreTaken (Simulate layout programs wire manner order None telling format) inputs = AreShort (most_input format) inputs (length inputs) × ((lists : List (List (List ℕ))) × AreFiles format layout.ports inputs lists × (excess_of lists ≡ None))
-AreTaken (Audit layout) inputs = AreShort (most_of (Audit layout)) inputs (length inputs)
+AreTaken (Audit layout why) inputs = AreShort (most_of (Audit layout why)) inputs (length inputs)
 AreTaken work inputs = inputs ≡ []
 
 abbrev pub NoneRose : (Kind → Stream → ℕ) → (Kind → Stream → ℕ) → Type 0

@@ -49,19 +49,19 @@ unmangled manner = record { mangle = None; after = manner.after }
 abbrev pub IsRun : Work → Type 0
 IsRun (Simulate layout programs wire manner order number telling format) = Unit {0}
 IsRun (Generate number) = ⊥
-IsRun (Audit layout) = ⊥
+IsRun (Audit layout why) = ⊥
 
 -- a run on threads of the work's packets shows this
 abbrev pub HasShown : Work → List (List (List ℕ)) → OutcomeShown → Type 0
 HasShown (Simulate layout programs wire manner order number telling format) lists o = HasForwarded layout.hands (setting_of layout programs wire (unmangled manner) lists) (frames_of layout) o
 HasShown (Generate number) lists o = ⊥
-HasShown (Audit layout) lists o = ⊥
+HasShown (Audit layout why) lists o = ⊥
 
 -- these are the texts of its history
 abbrev pub AreTextsFrom : Work → List (List (List ℕ)) → OutcomeShown → Written → Type 0
 AreTextsFrom (Simulate layout programs wire manner order number telling format) lists o texts = AreTextsIn format layout programs wire (unmangled manner) lists o.history (report_of layout programs wire (unmangled manner) lists o.history) texts
 AreTextsFrom (Generate number) lists o texts = ⊥
-AreTextsFrom (Audit layout) lists o texts = ⊥
+AreTextsFrom (Audit layout why) lists o texts = ⊥
 
 -- inputs are taken, and a run on threads of the packets of all ports shows this
 pub record IsShown (work : Work) (inputs : List (List ℕ)) (o : OutcomeShown) : Type 0 where

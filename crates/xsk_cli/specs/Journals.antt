@@ -1,5 +1,5 @@
 -- The journals of runs are legal, as `audit` reads them.
-use Rattle.std.specs.Prelude.{ℕ, ◌≤◌, true, List, [], ◌∷◌, length}
+use Rattle.std.specs.Prelude.{ℕ, ◌≤◌, Bool, true, List, [], ◌∷◌, length}
 use Rattle.xsk_umem.specs.Frame.{Frame}
 use Rattle.xsk_turns.specs.Workers.{Setting}
 use Rattle.xsk_sim.specs.Journal.{journal_of}
@@ -24,6 +24,6 @@ RunsAreLegal = (s : Setting) (frames : List Frame) (order : ℕ) (run : Shown) �
 -- What `simulate --journal` tells, with the report in front, is told by `audit` to be legal, where its layout is the same and the
 -- text isn't too long.
 abbrev pub ReportsAreLegal : Type 0
-ReportsAreLegal = (format : Format) (layout : Layout) (programs : List Program) (wire : Wire) (manner : Manner) (order : ℕ) (lists : List (List (List ℕ))) (texts : Written)
+ReportsAreLegal = (format : Format) (layout : Layout) (programs : List Program) (wire : Wire) (manner : Manner) (order : ℕ) (lists : List (List (List ℕ))) (texts : Written) (why : Bool)
     → (are : AreTextsOf format layout programs wire manner order lists true texts) → length texts.report ≤ 67108864
-    → IsOutcome (Audit (without_files layout)) (texts.report ∷ []) (made (record { outputs = []; report = legal_text (length are.ended.history) }))
+    → IsOutcome (Audit (without_files layout) why) (texts.report ∷ []) (made (record { outputs = []; report = legal_text (length are.ended.history) }))

@@ -75,7 +75,7 @@ abbrev pub AreListsOf : Work → List (List ℕ) → List (List (List ℕ)) → 
 AreListsOf (Simulate layout programs wire manner order None telling format) inputs lists = AreFiles format layout.ports inputs lists
 AreListsOf (Simulate layout programs wire manner order (Some number) telling format) inputs lists = (inputs ≡ []) × (lists ≡ made_lists number layout.ports)
 AreListsOf (Generate number) inputs lists = (inputs ≡ []) × (lists ≡ made_lists number 1)
-AreListsOf (Audit layout) inputs lists = ⊥
+AreListsOf (Audit layout why) inputs lists = ⊥
 
 -- ---- the run
 
@@ -212,14 +212,14 @@ abbrev pub AreTextsBy : Work → List (List (List ℕ)) → Written → Type 0
 AreTextsBy (Simulate layout programs wire manner order number telling format) lists texts = AreTextsOf format layout programs wire manner order lists telling.journal texts
 AreTextsBy (Generate number) lists texts =
     (texts.outputs ≡ map capture_of lists) × (texts.report ≡ report_on (slice_index_or lists 0 []))
-AreTextsBy (Audit layout) lists texts = ⊥
+AreTextsBy (Audit layout why) lists texts = ⊥
 
 -- the work's run of packets stalls in a round, and this is told of it
 abbrev pub IsStalledBy : Work → List (List (List ℕ)) → ℕ → List ℕ → Type 0
 IsStalledBy (Simulate layout programs wire manner order number telling format) lists round told =
     IsStall (setting_of layout programs wire manner lists) (frames_of layout) order round telling told
 IsStalledBy (Generate number) lists round told = ⊥
-IsStalledBy (Audit layout) lists round told = ⊥
+IsStalledBy (Audit layout why) lists round told = ⊥
 
 -- ---- the outcome
 
@@ -251,19 +251,19 @@ IsAudited layout text outcome = ⊥
 abbrev pub IsOnPackets : Work → Type 0
 IsOnPackets (Simulate layout programs wire manner order number telling format) = Unit {0}
 IsOnPackets (Generate number) = Unit {0}
-IsOnPackets (Audit layout) = ⊥
+IsOnPackets (Audit layout why) = ⊥
 
 -- the texts that are made of inputs: of their packets, or of their journal
 abbrev pub AreMadeOf : Work → List (List ℕ) → Written → Type 0
 AreMadeOf (Simulate layout programs wire manner order number telling format) inputs texts = IsOutcomeIn (Simulate layout programs wire manner order number telling format) inputs (made texts)
 AreMadeOf (Generate number) inputs texts = IsOutcomeIn (Generate number) inputs (made texts)
-AreMadeOf (Audit layout) inputs texts = IsAudited layout (bytes_of inputs 0) (made texts)
+AreMadeOf (Audit layout why) inputs texts = IsAudited layout (bytes_of inputs 0) (made texts)
 
 -- their journal isn't legal from a line on
 abbrev pub IsIllegalIn : Work → List (List ℕ) → ℕ → Type 0
 IsIllegalIn (Simulate layout programs wire manner order number telling format) inputs line = ⊥
 IsIllegalIn (Generate number) inputs line = ⊥
-IsIllegalIn (Audit layout) inputs line = IsAudited layout (bytes_of inputs 0) (illegal line)
+IsIllegalIn (Audit layout why) inputs line = IsAudited layout (bytes_of inputs 0) (illegal line)
 
 -- what inputs come to
 abbrev pub IsOutcome : Work → List (List ℕ) → Outcome → Type 0

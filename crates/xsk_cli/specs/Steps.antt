@@ -1,5 +1,5 @@
 -- What the steps of a command answer, and what they leave.
-use Rattle.std.specs.Prelude.{◌≡◌, ◌≢◌, ℕ, ◌+◌, ◌<◌, ◌⊎◌, true, false, All, length, List, [], ◌∷◌, ◌++◌, map, IfSome, Option, Some, None, Result, unwrap_or}
+use Rattle.std.specs.Prelude.{◌≡◌, ◌≢◌, ℕ, ◌+◌, ◌<◌, ◌⊎◌, Bool, true, false, All, length, List, [], ◌∷◌, ◌++◌, map, IfSome, Option, Some, None, Result, unwrap_or}
 use Rattle.std.specs.List.{slice_index_or}
 use Rattle.xsk_umem.specs.PacketList.{PacketList}
 use Rattle.xsk_io.specs.Bay.{Adds, GrowsByPart, IsOffered, Rose, Same, Moment}
@@ -16,6 +16,7 @@ use Rattle.xsk_pcapng.specs.declared.reading.BadPcapng.TheVariants.{OutOfMemory 
 use Rattle.xsk_plain.specs.Engine.{Engine}
 use Rattle.xsk_sim.specs.declared.simulation.SimError.{SimError}
 use Rattle.xsk_sim.specs.declared.simulation.SimError.TheVariants.{Stalled as HasNoEnd, OutOfMemory as RunMemory}
+use Rattle.xsk_turns.specs.declared.disposal.DriverCounters.{DriverCounters}
 use Rattle.xsk_turns.specs.declared.manner.Manner.{Manner}
 use Rattle.xsk_cli.specs.Judged.{AreShort, AreCaptures, IsBadCapture, excess_of}
 use Rattle.xsk_cli.specs.Outcome.{Written, capture_of, bad, passed, stalled, illegal, IsOutcome, IsAudited, IsStalledBy, setting_of, frames_of, bad_file}
@@ -33,6 +34,7 @@ use Rattle.xsk_cli.specs.Words.{Plan, fault_in, most_of, suits_in, no_plan}
 use Rattle.xsk_cli.specs.Cause.{IsCaused, NeverFalls, NoOthers}
 use Rattle.xsk_cli.specs.Ends.{ComesOf, TellsBy}
 use Rattle.xsk_cli.specs.Line.{line_of}
+use Rattle.xsk_cli.specs.Misfit.{IsReasoned, IsToldOf, TellsMisfit}
 use Rattle.xsk_cli.specs.Stalls.{IsStall, told_on}
 use Rattle.xsk_cli.specs.declared.words.Telling.{Telling}
 use Rattle.xsk_cli.specs.declared.words.Work.{Work}
@@ -43,9 +45,9 @@ use Rattle.xsk_cli.specs.Streams.{HasLine, IsAtOnce, IsTold, IsFront, IsSilent, 
 use Rattle.xsk_cli.specs.declared.failure.ReadFailure.{ReadFailure}
 use Rattle.xsk_cli.specs.declared.failure.ReadFailure.TheVariants.{Unopened as NoInput, Unread, TooLong, OutOfMemory as NoRoom}
 use Rattle.xsk_cli.specs.declared.failure.RunFailure.{RunFailure}
-use Rattle.xsk_cli.specs.declared.failure.RunFailure.TheVariants.{BadCapture as Bad, TooMuch as Excessive, Stalled as Stalls, Explained, OutOfMemory as NoMemory, NotLegal as Breaks, BadPcapng as BadFile}
+use Rattle.xsk_cli.specs.declared.failure.RunFailure.TheVariants.{BadCapture as Bad, TooMuch as Excessive, Stalled as Stalls, Explained, OutOfMemory as NoMemory, NotLegal as Breaks, Reasoned, BadPcapng as BadFile}
 use Rattle.xsk_cli.specs.declared.failure.Refusal.{Refusal}
-use Rattle.xsk_cli.specs.declared.failure.Refusal.TheVariants.{Bare, Stall}
+use Rattle.xsk_cli.specs.declared.failure.Refusal.TheVariants.{Bare, Stall, Misfit}
 use Rattle.xsk_cli.specs.declared.failure.WriteFailure.{WriteFailure}
 use Rattle.xsk_cli.specs.declared.failure.WriteFailure.TheVariants.{Unopened, Unwritten}
 use Rattle.xsk_cli.specs.declared.status.Excess.TheVariants.{Input as LongInput}
@@ -61,12 +63,12 @@ abbrev pub read_by : Work → ℕ
 read_by (Simulate layout programs wire manner order None telling format) = files_of format layout.ports
 read_by (Simulate layout programs wire manner order (Some number) telling format) = 0
 read_by (Generate number) = 0
-read_by (Audit layout) = 1
+read_by (Audit layout why) = 1
 
 abbrev pub written_by : Work → ℕ
 written_by (Simulate layout programs wire manner order number telling format) = files_of format layout.ports
 written_by (Generate number) = 1
-written_by (Audit layout) = 0
+written_by (Audit layout why) = 0
 
 -- a plan whose work is accepted, in which an application of several threads closes no socket, with as many files as it wants
 pub record IsReady (plan : Plan) : Type 0 where
@@ -99,11 +101,13 @@ run_status (Stalls round) = Stalled round
 run_status (Explained round text) = Stalled round
 run_status NoMemory = OutOfMemory
 run_status (Breaks line) = NotLegal line
+run_status (Reasoned line text) = NotLegal line
 run_status (BadFile cause) = BadPcapng cause
 
 -- and how each is told
 abbrev pub run_refusal : RunFailure → Refusal
 run_refusal (Explained round text) = Stall round text
+run_refusal (Reasoned line text) = Misfit line text
 run_refusal failure = Bare (run_status failure)
 
 abbrev pub write_status : WriteFailure → Status
@@ -166,6 +170,7 @@ AreUntaken inputs (Stalls round) = ⊥
 AreUntaken inputs (Explained round text) = ⊥
 AreUntaken inputs NoMemory = Unit {0}
 AreUntaken inputs (Breaks line) = ⊥
+AreUntaken inputs (Reasoned line text) = ⊥
 AreUntaken inputs (BadFile cause) = ⊥
 
 -- why the one file of so many ports isn't taken
@@ -197,12 +202,12 @@ sim_failure RunMemory = NoMemory
 abbrev pub IsStallText : ℕ → List ℕ → List ℕ → Type 0
 IsStallText round told text = text ≡ line_of (Stalled round) ++ told
 
--- why nothing is made of the object on which a run stalled in a round
-abbrev pub IsExplained : Telling → ℕ → Engine → RunFailure → Type 0
-IsExplained telling round engine (Stalls at) = (at ≡ round) × (told_on telling engine.config engine.rings engine.log ≡ [])
-IsExplained telling round engine (Explained at text) = (at ≡ round) × IsStallText round (told_on telling engine.config engine.rings engine.log) text.items
-IsExplained telling round engine NoMemory = Unit {0}
-IsExplained telling round engine failure = ⊥
+-- why nothing is made of the object on which a run stalled in a round, and of its drivers' counters
+abbrev pub IsExplained : Telling → ℕ → Engine → List DriverCounters → RunFailure → Type 0
+IsExplained telling round engine counters (Stalls at) = (at ≡ round) × (told_on telling engine.config engine.rings engine.log counters ≡ [])
+IsExplained telling round engine counters (Explained at text) = (at ≡ round) × IsStallText round (told_on telling engine.config engine.rings engine.log counters) text.items
+IsExplained telling round engine counters NoMemory = Unit {0}
+IsExplained telling round engine counters failure = ⊥
 
 -- why a run of packets gives nothing
 abbrev pub FailsRunning : Layout → List Program → Wire → Manner → ℕ → Telling → List (List (List ℕ)) → RunFailure → Type 0
@@ -212,11 +217,21 @@ FailsRunning layout programs wire manner order telling lists (Explained round te
 FailsRunning layout programs wire manner order telling lists NoMemory = Unit {0}
 FailsRunning layout programs wire manner order telling lists failure = ⊥
 
--- why an audit of a text gives nothing to write
-abbrev pub FailsAudit : Layout → List ℕ → RunFailure → Type 0
-FailsAudit layout text (Breaks line) = IsAudited layout text (illegal line)
-FailsAudit layout text NoMemory = Unit {0}
-FailsAudit layout text failure = ⊥
+-- a text is the line that a journal isn't legal from a line on with what is told behind it
+abbrev pub IsMisfitText : ℕ → List ℕ → List ℕ → Type 0
+IsMisfitText line told text = text ≡ line_of (NotLegal line) ++ told
+
+-- so with why it isn't
+abbrev pub IsReasonText : Layout → List ℕ → ℕ → List ℕ → Type 0
+IsReasonText layout journal line text = (told : List ℕ) × IsReasoned layout journal line told × IsMisfitText line told text
+
+-- why an audit of a text gives nothing to write, where it is asked why a line isn't legal or not
+abbrev pub FailsAudit : Bool → Layout → List ℕ → RunFailure → Type 0
+FailsAudit why layout text (Breaks line) = IsAudited layout text (illegal line) × TellsMisfit why layout text line []
+FailsAudit why layout text (Reasoned line telling) =
+    (told : List ℕ) × (IsAudited layout text (illegal line) × TellsMisfit why layout text line told) × IsMisfitText line told telling.items
+FailsAudit why layout text NoMemory = Unit {0}
+FailsAudit why layout text failure = ⊥
 
 -- no run was made
 abbrev pub IsBeforeRun : RunFailure → Type 0
@@ -238,7 +253,8 @@ MakesNone work inputs (Excessive excess) = IsOutcome work inputs (passed excess)
 MakesNone work inputs (Stalls round) = IsOutcome work inputs (stalled round [])
 MakesNone work inputs (Explained round text) = (told : List ℕ) × IsOutcome work inputs (stalled round told) × IsStallText round told text.items
 MakesNone work inputs NoMemory = Unit {0}
-MakesNone work inputs (Breaks line) = IsOutcome work inputs (illegal line)
+MakesNone work inputs (Breaks line) = IsOutcome work inputs (illegal line) × IsToldOf work inputs line []
+MakesNone work inputs (Reasoned line text) = (told : List ℕ) × (IsOutcome work inputs (illegal line) × IsToldOf work inputs line told) × IsMisfitText line told text.items
 MakesNone work inputs (BadFile cause) = IsOutcome work inputs (bad_file cause)
 
 -- the outputs, where the drivers sent this: the captures of it, where it stands, or texts
@@ -278,6 +294,7 @@ no_texts = told_alone []
 abbrev pub MakesNo : (Written → Moment → Status → Type 0) → RunFailure → Type 0
 MakesNo Comes (Excessive (LongInput port)) = ⊥
 MakesNo Comes (Explained round text) = (told : List ℕ) × IsStallText round told text.items × ((old : Moment) → Comes (told_alone told) old (Stalled round))
+MakesNo Comes (Reasoned line text) = (told : List ℕ) × IsMisfitText line told text.items × ((old : Moment) → Comes (told_alone told) old (NotLegal line))
 MakesNo Comes failure = (old : Moment) → Comes no_texts old (run_status failure)
 
 -- ---- writing

@@ -13,7 +13,7 @@ use Rattle.xsk_cli.specs.declared.status.Excess.TheVariants.{Input as TooLong}
 use Rattle.xsk_cli.specs.declared.status.Status.{Status}
 use Rattle.xsk_cli.specs.declared.status.Status.TheVariants.{Done, Usage, BadCapture, ReadFault, WriteFault, OpenFault, Refused, Stalled, TooMuch, OutOfMemory, NotLegal, BadPcapng}
 use Rattle.xsk_cli.specs.declared.failure.Refusal.{Refusal}
-use Rattle.xsk_cli.specs.declared.failure.Refusal.TheVariants.{Bare, Stall}
+use Rattle.xsk_cli.specs.declared.failure.Refusal.TheVariants.{Bare, Stall, Misfit}
 use Rattle.xsk_cli.specs.Cause.{NeverFalls, Unchanged}
 use Rattle.xsk_cli.specs.Line.{line_of}
 use Rattle.xsk_cli.specs.Words.{Plan}
@@ -178,10 +178,12 @@ name_of plan Report = []
 abbrev pub refusal_status : Refusal → Status
 refusal_status (Bare status) = status
 refusal_status (Stall round text) = Stalled round
+refusal_status (Misfit line text) = NotLegal line
 
 abbrev pub refusal_text : Refusal → List ℕ
 refusal_text (Bare status) = line_of status
 refusal_text (Stall round text) = text.items
+refusal_text (Misfit line text) = text.items
 
 abbrev pub status_in : Result Unit Refusal → Status
 status_in (Ok done) = Done

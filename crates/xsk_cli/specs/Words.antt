@@ -69,6 +69,10 @@ rounds_options =
     ∷ (codes "why", nothing)
     ∷ []
 
+-- that of an audit
+abbrev pub why_options : List Key
+why_options = (codes "why", nothing) ∷ []
+
 -- those of a run on threads
 abbrev pub threads_options : List Key
 threads_options = (codes "hands", a_number) ∷ []
@@ -210,13 +214,16 @@ gen_plan _ = None
 abbrev pub without_files : Layout → Layout
 without_files layout = record layout { files = 0; files_wanted_per_port = 0 }
 
+abbrev pub audit_options : List Key
+audit_options = layout_options ++ why_options
+
 -- the one file is the journal
 abbrev pub audit_plan_by : Meaning → List Text → Option Plan
-audit_plan_by said (file ∷ []) = Some (record { inputs = file ∷ []; outputs = []; work = Audit (without_files (layout_by said)) })
+audit_plan_by said (file ∷ []) = Some (record { inputs = file ∷ []; outputs = []; work = Audit (without_files (layout_by said)) (is_some (said (codes "why"))) })
 audit_plan_by said _ = None
 
 abbrev pub audit_plan : List Text → Option Plan
-audit_plan words = option_and_then (λ said. audit_plan_by said (files_in said)) (meaning (codes "audit") layout_options words)
+audit_plan words = option_and_then (λ said. audit_plan_by said (files_in said)) (meaning (codes "audit") audit_options words)
 
 -- ---- all
 
@@ -231,7 +238,7 @@ plan_of (first ∷ rest) =
 abbrev pub fault_in : Work → Option Unlawful
 fault_in (Simulate layout programs wire manner order number telling format) = fault_of layout
 fault_in (Generate number) = None
-fault_in (Audit layout) = fault_of layout
+fault_in (Audit layout why) = fault_of layout
 
 -- an application of several threads closes no socket, and so waits for no items to close one
 abbrev pub suits_hands : Layout → Manner → Bool
@@ -240,22 +247,22 @@ suits_hands layout manner = layout.hands == 1 || (not (is_some layout.close) && 
 abbrev pub suits_in : Work → Bool
 suits_in (Simulate layout programs wire manner order number telling format) = suits_hands layout manner
 suits_in (Generate number) = true
-suits_in (Audit layout) = true
+suits_in (Audit layout why) = true
 
 -- how many ports have packets
 abbrev pub ports_in : Work → ℕ
 ports_in (Simulate layout programs wire manner order number telling format) = layout.ports
 ports_in (Generate number) = 1
-ports_in (Audit layout) = 0
+ports_in (Audit layout why) = 0
 
 -- the format of the files of packets
 abbrev pub format_in : Work → Format
 format_in (Simulate layout programs wire manner order number telling format) = format
 format_in (Generate number) = Pcap
-format_in (Audit layout) = Pcap
+format_in (Audit layout why) = Pcap
 
 -- the most bytes of one input: of a file of packets, or of a journal
 abbrev pub most_of : Work → ℕ
 most_of (Simulate layout programs wire manner order number telling format) = most_input format
 most_of (Generate number) = most_input Pcap
-most_of (Audit layout) = 67108864
+most_of (Audit layout why) = 67108864

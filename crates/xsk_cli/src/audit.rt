@@ -11,7 +11,8 @@ ghost use Rattle.xsk_cli.specs.Words.{audit_plan, audit_plan_by, files_in, layou
 use crate::Status;
 use crate::chain::Chained;
 use crate::failure::{Refusal, RunFailure};
-use crate::options::LAYOUT;
+use crate::misfit::explain_misfit;
+use crate::options::{AUDIT, LAYOUT};
 use crate::setup::set_up;
 use crate::texts::{Outputs, Texts};
 use crate::words::{Plan, Work, layout_of};
@@ -29,7 +30,7 @@ pub(crate) fn run_audit<B: Bay>(alloc: Global, words: &[String], bay: &mut B) ->
     requires { NoneOpen (B.moment bay.old) }
     ensures { Comes (audit_plan (map string_bytes words.now)) (B.moment bay.old) (B.moment bay.new) result }
 {
-    let args = parse(alloc, "audit", &[&LAYOUT], words)?;
+    let args = parse(alloc, "audit", &[&LAYOUT, &AUDIT], words)?;
     audit_said(alloc, &args, bay)
 }
 
@@ -42,20 +43,26 @@ fn audit_said<B: Bay>(alloc: Global, args: &Args<'_>, bay: &mut B) -> Result<(),
         return Err(Refusal::Bare(Status::Usage));
     };
     let layout = audited_layout(args)?;
-    audit_file(alloc, file, layout, bay)
+    audit_file(alloc, file, layout, args.is_said("why"), bay)
 }
 
 /// Audits the journal of a file by an accepted layout.
-fn audit_file<B: Bay>(alloc: Global, file: &str, layout: Layout, bay: &mut B) -> Result<(), Refusal>
+fn audit_file<B: Bay>(
+    alloc: Global,
+    file: &str,
+    layout: Layout,
+    why: bool,
+    bay: &mut B,
+) -> Result<(), Refusal>
     requires closed { NoneOpen (B.moment bay.old) }
     requires accepted { fault_of layout ≡ None }
-    ensures { Comes (Some (record { inputs = file.now ∷ []; outputs = []; work = Work.Audit layout })) (B.moment bay.old) (B.moment bay.new) result }
+    ensures { Comes (Some (record { inputs = file.now ∷ []; outputs = []; work = Work.Audit layout why })) (B.moment bay.old) (B.moment bay.new) result }
 {
     let inputs = [file];
     let plan = Plan {
         inputs: &inputs,
         outputs: &[],
-        work: Work::Audit { layout },
+        work: Work::Audit { layout, why },
     };
     let Chained {
         result,
@@ -88,17 +95,22 @@ fn audited_layout(args: &Args<'_>) -> Result<Layout, Unlawful>
     Ok(layout)
 }
 
-/// The line that tells a legal journal, or the line from which on it isn't legal.
-pub(crate) fn audit_texts(alloc: Global, layout: &Layout, text: &[u8]) -> Result<Texts, RunFailure>
+/// The line that tells a legal journal, or the line from which on it isn't legal, and why, where that is asked for.
+pub(crate) fn audit_texts(
+    alloc: Global,
+    layout: &Layout,
+    why: bool,
+    text: &[u8],
+) -> Result<Texts, RunFailure>
     requires { fault_of layout.now ≡ None }
     ensures made { IfOk result (λ texts. IsAudited layout.now text.now (made (written_in [] texts))) }
     ensures laid { IfOk result (λ texts. CanBeLaid [] texts.outputs) }
-    ensures failed { IfErr result (FailsAudit layout.now text.now) }
+    ensures failed { IfErr result (FailsAudit why layout.now text.now) }
 {
     let (config, frames) = set_up(alloc, layout)?;
     match audit(alloc, config, frames, text)? {
         Verdicts::Legal { entries } => Ok(legal_texts(alloc, entries)?),
-        Verdicts::NotLegal { line } => Err(RunFailure::NotLegal { line }),
+        Verdicts::NotLegal { line } => Err(explain_misfit(alloc, layout, why, line, text)),
     }
 }
 

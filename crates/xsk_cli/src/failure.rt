@@ -33,6 +33,8 @@ pub(crate) enum RunFailure {
     OutOfMemory,
     /// The journal isn't legal from this line on.
     NotLegal { line: u64 },
+    /// The same, and the text is the line that tells it with what is told behind it.
+    Reasoned { line: u64, text: Vec<u8> },
     BadPcapng(BadPcapng),
 }
 
@@ -43,6 +45,8 @@ pub(crate) enum Refusal {
     Bare(Status),
     /// The run stalled in this round, and the text is the line of the stall with what is told behind it.
     Stall { round: u64, text: Vec<u8> },
+    /// The journal isn't legal from this line on, and the text is the line that tells it with what is told behind it.
+    Misfit { line: u64, text: Vec<u8> },
 }
 
 /// Why the texts weren't written.
@@ -135,6 +139,7 @@ impl From<RunFailure> for Refusal {
             RunFailure::Explained { round, text } => Refusal::Stall { round, text },
             RunFailure::OutOfMemory => Refusal::Bare(Status::OutOfMemory),
             RunFailure::NotLegal { line } => Refusal::Bare(Status::NotLegal { line }),
+            RunFailure::Reasoned { line, text } => Refusal::Misfit { line, text },
             RunFailure::BadPcapng(cause) => Refusal::Bare(Status::BadPcapng(cause)),
         }
     }

@@ -13,6 +13,7 @@ mod leaves;
 mod line;
 mod lists;
 mod made;
+mod misfit;
 pub mod options;
 mod output;
 mod plain;

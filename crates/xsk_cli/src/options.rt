@@ -2,7 +2,7 @@
 
 use xsk_args::{OptionRow, Takes};
 
-/// Those that make the configuration, which `audit` has alone. The number that stands where none was said is
+/// Those that make the configuration, which `audit` has beside `--why`. The number that stands where none was said is
 /// [`layout_of`](crate::words::layout_of)'s.
 pub const LAYOUT: [OptionRow; 14] = [
     OptionRow {
@@ -175,6 +175,15 @@ pub const ROUNDS: [OptionRow; 4] = [
         unsaid: "the line alone",
     },
 ];
+
+/// That of an audit.
+pub const AUDIT: [OptionRow; 1] = [OptionRow {
+    name: "why",
+    takes: Takes::Nothing,
+    about: "behind the first line that isn't legal why, and what stands in each ring and which frames each caller has",
+    accepts: "",
+    unsaid: "the line alone",
+}];
 
 /// Those of a run on threads: `forward`'s.
 pub const THREADS: [OptionRow; 1] = [OptionRow {

@@ -32,7 +32,8 @@ use xsk_io::{Bay, Stream, write_whole};
 /// capture of the packets that are made of a number, and then the line `packets P bytes B`. `audit [OPTION ..] FILE` reads a
 /// journal, and tells by the line `legal N` that it is the journal of a legal history with so many entries, or by the status
 /// the first line that isn't. A refusal is told in one line to the report; behind that of
-/// a stall `--why` tells what each worker waits for and what stands in each ring, and with `--journal` the calls so far.
+/// a stall `--why` tells what each worker waits for and what stands in each ring, and with `--journal` the calls so far; and behind that
+/// of a journal why the line isn't legal and what stands where.
 pub fn run_plain<B: Bay>(alloc: Global, words: &[String], bay: &mut B) -> Status
     requires { NoneOpen (B.moment bay.old) }
     ensures answer { IsPlainAnswer (plan_of (map string_bytes words.now)) (B.moment bay.old) (B.moment bay.new) result }
@@ -54,6 +55,7 @@ pub(crate) fn status_of(answer: Result<(), Refusal>) -> Status
         Ok(()) => Status::Done,
         Err(Refusal::Bare(status)) => status,
         Err(Refusal::Stall { round, .. }) => Status::Stalled { round },
+        Err(Refusal::Misfit { line, .. }) => Status::NotLegal { line },
     }
 }
 
@@ -126,7 +128,7 @@ fn tell_answer<B: Bay>(bay: &mut B, answer: &Result<(), Refusal>)
     match answer {
         Ok(()) => {}
         Err(Refusal::Bare(status)) => tell(bay, status),
-        Err(Refusal::Stall { text, .. }) => {
+        Err(Refusal::Stall { text, .. }) | Err(Refusal::Misfit { text, .. }) => {
             let _told = write_whole(bay, Stream::Report, text.as_slice());
         }
     }

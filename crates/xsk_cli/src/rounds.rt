@@ -224,7 +224,13 @@ fn run_lists(
             let text = told_text(alloc, &shared, &run, telling.journal)?;
             Ok((run.into_sent(), text))
         }
-        Err(Unended::Stalled { round, object }) => Err(explain(alloc, round, &object, telling)),
+        Err(
+            Unended::Stalled {
+                round,
+                object,
+                counters,
+            },
+        ) => Err(explain(alloc, round, &object, counters.as_slice(), telling)),
         Err(Unended::OutOfMemory) => Err(RunFailure::OutOfMemory),
     }
 }

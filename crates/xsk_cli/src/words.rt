@@ -44,9 +44,10 @@ pub enum Work {
     Generate {
         number: u32,
     },
-    /// The audit of a journal by the layout's configuration.
+    /// The audit of a journal by the layout's configuration, which tells why a line isn't legal where that is asked for.
     Audit {
         layout: Layout,
+        why: bool,
     },
 }
 

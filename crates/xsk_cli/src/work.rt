@@ -90,7 +90,7 @@ fn work_texts(alloc: Global, work: &Work, inputs: Vec<Vec<u8>>) -> Result<Texts,
 {
     match work {
         Work::Generate { number } => Ok(generated_texts(alloc, *number)?),
-        Work::Audit { layout } => audit_texts(alloc, layout, inputs[0].as_slice()),
+        Work::Audit { layout, why } => audit_texts(alloc, layout, *why, inputs[0].as_slice()),
         Work::Simulate { .. } => unreachable!(),
     }
 }

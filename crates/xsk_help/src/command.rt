@@ -3,11 +3,12 @@
 use clap::{Arg, ArgAction, Command};
 use std::alloc::{AllocError, Global};
 use xsk_args::{OptionRow, Takes};
-use xsk_cli::options::{LAYOUT, ROUNDS, RUN, THREADS};
+use xsk_cli::options::{AUDIT, LAYOUT, ROUNDS, RUN, THREADS};
 
 /// The program with its five commands. None has a help option of clap's own.
 pub(crate) fn program<'a>(alloc: Global) -> Result<Command<'a>, AllocError> {
-    let audit = with_options(alloc, bare(alloc, "audit"), &LAYOUT)?.arg(files(alloc))?;
+    let audit = with_options(alloc, bare(alloc, "audit"), &LAYOUT)?;
+    let audit = with_options(alloc, audit, &AUDIT)?.arg(files(alloc))?;
     bare(alloc, "xsk")
         .no_binary_name(true)
         .subcommand_required(true)

@@ -4,7 +4,7 @@ use crate::command::value_name;
 use std::alloc::{AllocError, Global};
 use std::fmt::Write;
 use xsk_args::{OptionRow, Takes};
-use xsk_cli::options::{LAYOUT, ROUNDS, RUN, THREADS};
+use xsk_cli::options::{AUDIT, LAYOUT, ROUNDS, RUN, THREADS};
 
 /// How the commands go.
 pub(crate) const SYNOPSIS: &str = "\
@@ -20,7 +20,7 @@ const COMMANDS: &str = "
   simulate  forwards the packets of a capture for each port over a model of AF_XDP sockets, in rounds on one thread
   forward   does so with each driver and each application in a thread of its own
   gen       writes a capture of the packets that are made of a number
-  audit     tells the first line of a journal that isn't of a legal history of the rings
+  audit     tells the first line of a journal that isn't of a legal history of the rings, and why
   check     tells the first call of a program's recording that isn't possible, and why
 ";
 
@@ -52,6 +52,7 @@ pub(crate) fn whole_text(alloc: Global) -> Result<String, AllocError> {
     push_table(&mut text, "Options of simulate and forward", &RUN)?;
     push_table(&mut text, "Options of simulate", &ROUNDS)?;
     push_table(&mut text, "Options of forward", &THREADS)?;
+    push_table(&mut text, "Options of audit", &AUDIT)?;
     text.push_str(STATUSES)?;
     Ok(text)
 }

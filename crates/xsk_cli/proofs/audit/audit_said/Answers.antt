@@ -1,4 +1,5 @@
 use Rattle.std.proofs.Common.{rules, ◌≡◌, ◌∙◌, ◌∷◌, [], ap, sym, subst, Some, Option}
+use Rattle.std.specs.Prelude.{Bool, codes, is_some}
 use Rattle.xsk_args.specs.Words.{Text}
 use Rattle.xsk_args.specs.Meaning.{Meaning, under}
 use Rattle.xsk_socket.specs.Layout.{fault_of}
@@ -36,6 +37,8 @@ returns g c =
     let new : Moment = g.B.Bay.moment c.audit_file.new.bay in
     let said : Meaning = under c.args.args.now in
     let file : Text = c.in-Some.file.now in
-    let planned : audit_plan_by said (files_in said) ≡ Some (record { inputs = file ∷ []; outputs = []; work = Audit c.in_ok-layout.layout }) =
-    ap (audit_plan_by said) c.in-Some.ensures.one ∙ ap (λ (l : Layout). Some (record { inputs = file ∷ []; outputs = []; work = Audit l })) (sym c.in_ok-layout.ensures.layout) in
+    let planned : audit_plan_by said (files_in said) ≡ Some (record { inputs = file ∷ []; outputs = []; work = Audit c.in_ok-layout.layout c.is_said.result }) =
+    ap (audit_plan_by said) c.in-Some.ensures.one
+    ∙ ap (λ (l : Layout). Some (record { inputs = file ∷ []; outputs = []; work = Audit l (is_some (said (codes "why"))) })) (sym c.in_ok-layout.ensures.layout)
+    ∙ ap (λ (b : Bool). Some (record { inputs = file ∷ []; outputs = []; work = Audit c.in_ok-layout.layout b })) (sym c.is_said.ensures) in
     subst (λ (o : Option Plan). Comes o old new c.audit_file.result) (sym planned) c.audit_file.ensures

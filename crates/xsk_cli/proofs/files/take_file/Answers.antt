@@ -6,7 +6,7 @@ use Rattle.xsk_cli.specs.Format.{most_input}
 use Rattle.xsk_cli.specs.Steps.{IsBeforeRun, IsFileRefusal, IsUntaken, lists_in}
 use Rattle.xsk_cli.specs.declared.format.Format.TheVariants.{Pcapng}
 use Rattle.xsk_cli.specs.declared.failure.RunFailure.{RunFailure}
-use Rattle.xsk_cli.specs.declared.failure.RunFailure.TheVariants.{BadCapture as Bad, TooMuch as Excessive, Stalled as Stalls, Explained, OutOfMemory as NoMemory, NotLegal as Breaks, BadPcapng as BadFile}
+use Rattle.xsk_cli.specs.declared.failure.RunFailure.TheVariants.{BadCapture as Bad, TooMuch as Excessive, Stalled as Stalls, Explained, OutOfMemory as NoMemory, NotLegal as Breaks, Reasoned, BadPcapng as BadFile}
 use Rattle.xsk_cli.proofs.Counting.{err_is}
 use Rattle.xsk_cli.proofs.Filing.{count_file, file_small}
 use Rattle.xsk_cli.proofs.Judging.{short_all}
@@ -22,6 +22,7 @@ file_untaken ports inputs (Excessive excess) one short h = absurd h
 file_untaken ports inputs (Stalls round) one short h = absurd h
 file_untaken ports inputs (Explained round text) one short h = absurd h
 file_untaken ports inputs (Breaks line) one short h = absurd h
+file_untaken ports inputs (Reasoned line text) one short h = absurd h
 
 pub check_limits-requires-clause-few : goal.check_limits-requires-clause-few
 check_limits-requires-clause-few c =

@@ -1,6 +1,8 @@
-use Rattle.std.proofs.Common.{rules, Err, ◌≡◌, ◌++◌, [], ap, refl, subst, sym, ◌∙◌, arith, append-nil, true, false, not}
+use Rattle.std.proofs.Common.{rules, List, length, Err, ◌≡◌, ◌++◌, [], ap, refl, subst, sym, ◌∙◌, arith, append-nil, true, false, not}
 use Rattle.std.specs.Prelude.{Bool, IfErr, if◌then◌else◌}
-use Rattle.xsk_model.specs.Config.{Config}
+use Rattle.std.proofs.lemmas.List.FromFn.{length-map-range_with_len}
+use Rattle.xsk_model.specs.Config.{Config, IsRegular}
+use Rattle.xsk_turns.specs.declared.disposal.DriverCounters.{DriverCounters}
 use Rattle.xsk_machine.specs.Sent.{SentShown}
 use Rattle.xsk_sim.specs.Journal.{journal_of}
 use Rattle.xsk_sim.specs.declared.simulation.Unended.TheVariants.{Stalled as StalledOn}
@@ -8,7 +10,7 @@ use Rattle.xsk_socket.specs.Regular.{regular_of}
 use Rattle.xsk_stats.specs.Report.{report_text}
 use Rattle.xsk_socket.proofs.Accepted.{fits}
 use Rattle.xsk_cli.specs.Outcome.{rules_by}
-use Rattle.xsk_cli.specs.Steps.{FailsRunning, lists_in, sim_failure}
+use Rattle.xsk_cli.specs.Steps.{FailsRunning, IsExplained, lists_in, sim_failure}
 use Rattle.xsk_cli.specs.declared.failure.RunFailure.TheVariants.{OutOfMemory as NoMemory}
 use Rattle.xsk_cli.proofs.Running.{ended_under, explained_under, failed_under, unasked}
 use Rattle.xsk_cli.proofs.rounds.run_lists.Goals as goal
@@ -64,11 +66,29 @@ returns-in-Ok-clause-ended c =
       text,
     )
 
+-- the object is one of the configuration, and each driver has counters
+pub explain-requires-clause-regular : goal.explain-requires-clause-regular
+explain-requires-clause-regular c =
+    let counters = c.in-Err-Stalled.counters in
+    let told : c.in-Err-Stalled.field-0 ≡ StalledOn c.in-Err-Stalled.round c.in-Err-Stalled.object counters = search rules in
+    let on = c.in-Err-Stalled.ensures.stalled c.in-Err-Stalled.round c.in-Err-Stalled.object counters (ap Err told) in
+    subst IsRegular (sym on.run.config) c.in_ok-config.ensures.regular
+
+pub explain-requires-clause-drivers : goal.explain-requires-clause-drivers
+explain-requires-clause-drivers c =
+    let counters = c.in-Err-Stalled.counters in
+    let told : c.in-Err-Stalled.field-0 ≡ StalledOn c.in-Err-Stalled.round c.in-Err-Stalled.object counters = search rules in
+    let on = c.in-Err-Stalled.ensures.stalled c.in-Err-Stalled.round c.in-Err-Stalled.object counters (ap Err told) in
+    let count = ap length on.counted ∙ length-map-range_with_len _ 0 (length c.in_ok-config.config.pairs) in
+    ap length c.as_slice-in-Err-Stalled.ensures.value ∙ count ∙ sym (ap (λ (k : Config). length k.pairs) on.run.config)
+
 pub returns-in-Err-Stalled-clause-failed : goal.returns-in-Err-Stalled-clause-failed
 returns-in-Err-Stalled-clause-failed c =
     let round = c.in-Err-Stalled.round in
     let object = c.in-Err-Stalled.object in
-    let told : c.in-Err-Stalled.field-0 ≡ StalledOn round object = search rules in
+    let counters = c.in-Err-Stalled.counters in
+    let told : c.in-Err-Stalled.field-0 ≡ StalledOn round object counters = search rules in
     explained_under _ c.in_ok-chain.chain c.args.layout.now c.args.programs.now c.args.wire c.args.manner c.args.order c.in_ok-config.config c.args.lists.now c.in_ok-config.frames.items (lists_in c.args.lists.now)
     c.in_ok-config.ensures.config c.requires.listed c.in_ok-config.ensures.frames (c.in_ok-chain.ensures.rules ∙ ap (rules_by c.args.layout.now.sockets) c.as_slice.ensures.value)
-    _ c.args.telling round object c.explain.result (c.in-Err-Stalled.ensures.stalled round object (ap Err told)) c.explain.ensures
+    _ c.args.telling round object counters.items c.explain.result (c.in-Err-Stalled.ensures.stalled round object counters (ap Err told))
+    (subst (λ (ks : List DriverCounters). IsExplained c.args.telling round object ks c.explain.result) c.as_slice-in-Err-Stalled.ensures.value c.explain.ensures)

@@ -4,7 +4,7 @@ use Rattle.xsk_args.specs.Words.{Text}
 use Rattle.xsk_args.specs.Meaning.{meaning, under}
 use Rattle.xsk_socket.specs.Layout.{fault_of}
 use Rattle.xsk_cli.specs.Ends.{TellsBy}
-use Rattle.xsk_cli.specs.Forward.{ComesShown, forward_options, forward_plan}
+use Rattle.xsk_cli.specs.Forward.{ComesShown, IsRun, forward_options, forward_plan}
 use Rattle.xsk_cli.specs.Line.{line_of}
 use Rattle.xsk_cli.specs.declared.words.Work.{Work}
 use Rattle.xsk_cli.proofs.Telling.{told_shown}
@@ -64,7 +64,7 @@ returns g c =
     let status : Status = status_in c.run_on_threads-result.result.result in
     let is : planned ≡ Some plan =
     has_plan (under c.in_ok-args.args) (meaning (codes "forward") forward_options words) c.in_ok-args.ensures.told c.in_ok-check_words.ensures.passed ∙ ap Some (sym c.in_ok-plan.ensures.plan) in
-    let ends : TellsBy (ComesShown plan.work left) plan old new status (line_of status) = told_shown plan old new left status (text_in c.run_on_threads-result.result.result) c.run_on_threads-result.ensures.ends in
+    let ends : TellsBy (ComesShown plan.work left) plan old new status (line_of status) = told_shown plan old new left status (text_in c.run_on_threads-result.result.result) (subst (λ (p : Plan). IsRun p.work) (sym c.in_ok-plan.ensures.plan) tt) c.run_on_threads-result.ensures.ends in
     subst (λ (s : Status). ComesTo (λ (work : Work). ComesShown work left) planned old new s (line_of s)) (sym c.status_of.ensures)
     (plan_comes_to (λ (work : Work). ComesShown work left) planned plan old new status (line_of status) is c.in_ok-plan.ensures.accepted c.run_on_threads-result.ensures.begun
     ends c.run_on_threads-result.ensures.silent c.run_on_threads-result.ensures.cause c.run_on_threads-result.ensures.falls c.run_on_threads-result.ensures.others)

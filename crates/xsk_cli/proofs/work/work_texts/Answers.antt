@@ -14,27 +14,29 @@ pub returns-in-Audit-clause-failed : goal.returns-in-Audit-clause-failed
 returns-in-Audit-clause-failed c =
     let bytes : List (List ℕ) = map (λ bytes. bytes.items) c.args.inputs.items in
     let layout = c.in-Audit.layout in
+    let why = c.in-Audit.why in
     let known : 0 < length c.args.inputs.items = search rules in
     let item : c.index.result.now ≡ get_or c.args.inputs.items 0 c.index.result.now = search rules in
     let text_is : c.as_slice.result.now ≡ bytes_of bytes 0 =
     text_at (λ bytes. bytes.items) c.args.inputs.items 0 c.index.result.now c.as_slice.result.now known (c.as_slice.ensures.value ∙ ap (λ bytes. bytes.items) item) in
-    let fails : IfErr c.audit_texts.result (FailsAudit layout (bytes_of bytes 0)) = subst (λ t. IfErr c.audit_texts.result (FailsAudit layout t)) text_is c.audit_texts.ensures.failed in
+    let fails : IfErr c.audit_texts.result (FailsAudit why layout (bytes_of bytes 0)) = subst (λ t. IfErr c.audit_texts.result (FailsAudit why layout t)) text_is c.audit_texts.ensures.failed in
     let within : AreShort (most_of c.args.work.now) bytes (length bytes) =
     subst (AreShort (most_of c.args.work.now) bytes) (sym (length-map c.args.inputs.items (λ bytes. bytes.items))) c.requires.within in
     subst (λ (w : Work). IfErr c.audit_texts.result (MakesNone w bytes)) (sym c.in-Audit.is)
-    (audit_makes c.audit_texts.result layout bytes (subst (λ (w : Work). AreShort (most_of w) bytes (length bytes)) c.in-Audit.is within) fails)
+    (audit_makes c.audit_texts.result layout why bytes (subst (λ (w : Work). AreShort (most_of w) bytes (length bytes)) c.in-Audit.is within) fails)
 
 pub returns-in-Audit-clause-made : goal.returns-in-Audit-clause-made
 returns-in-Audit-clause-made c =
     let bytes : List (List ℕ) = map (λ bytes. bytes.items) c.args.inputs.items in
     let layout = c.in-Audit.layout in
+    let why = c.in-Audit.why in
     let known : 0 < length c.args.inputs.items = search rules in
     let item : c.index.result.now ≡ get_or c.args.inputs.items 0 c.index.result.now = search rules in
     let text_is : c.as_slice.result.now ≡ bytes_of bytes 0 =
     text_at (λ bytes. bytes.items) c.args.inputs.items 0 c.index.result.now c.as_slice.result.now known (c.as_slice.ensures.value ∙ ap (λ bytes. bytes.items) item) in
     let within : AreShort (most_of c.args.work.now) bytes (length bytes) =
     subst (AreShort (most_of c.args.work.now) bytes) (sym (length-map c.args.inputs.items (λ bytes. bytes.items))) c.requires.within in
-    audit_made c.audit_texts.result c.args.work.now layout bytes c.in-Audit.is within
+    audit_made c.audit_texts.result c.args.work.now layout why bytes c.in-Audit.is within
     (subst (λ t. IfOk c.audit_texts.result (λ texts. IsAudited layout t (made (written_in [] texts)))) text_is c.audit_texts.ensures.made)
 
 pub returns-in-Generate-clause-made : goal.returns-in-Generate-clause-made
