@@ -22,6 +22,11 @@ def cases():
                 yield case
 
 
+def options_of(words):
+    """The words before the one that ends the options."""
+    return words[:words.index("--")] if "--" in words else words
+
+
 def option(words, name, default):
     """The number of an option."""
     for at, word in enumerate(words):
@@ -34,7 +39,7 @@ def option(words, name, default):
 
 def setting_of(words, report):
     """The setting of a command, whose report begins with this line."""
-    told = report.split()
+    words, told = options_of(words), report.split()
     ports, queues, sockets, chunk, headroom, frames = map(int, told[1:12:2])
     rx, tx, fill, comp = (option(words, name, 2048) for name in ("rx", "tx", "fill", "comp"))
     pairs = ports * queues
@@ -54,7 +59,7 @@ def opening(setting):
 
 def simulated(program, case):
     """What a case's command tells, with its journal."""
-    words = case["words"] if "--journal" in case["words"] else [case["words"][0], "--journal", *case["words"][1:]]
+    words = case["words"] if "--journal" in options_of(case["words"]) else [case["words"][0], "--journal", *case["words"][1:]]
     with tempfile.TemporaryDirectory(prefix="xsk-journal-") as folder:
         for inner in case.get("folders", []):
             os.makedirs(os.path.join(folder, inner))
