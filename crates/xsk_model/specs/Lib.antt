@@ -14,6 +14,7 @@ pub mod Homes
 pub mod Laws
 pub mod Legal
 pub mod Limits
+pub mod MarkKinds
 pub mod Marks
 pub mod Numbers
 pub mod Object
