@@ -5,6 +5,7 @@
 -- Descriptor, Packets, Steering, Sent: packets in frames, where they go, and what a driver sent. Laws: what holds of all histories.
 -- For code and proofs: Asks, Expected, Numbers, OtherWords, Parts, Sizes, Stored.
 pub mod Asks
+pub mod Bases
 pub mod Config
 pub mod Descriptor
 pub mod Entry
