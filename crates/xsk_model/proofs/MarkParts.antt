@@ -1,6 +1,6 @@
 -- A mark and its kind, number and index tell the same.
 use Rattle.std.proofs.Common.{refl, arith}
-use Rattle.xsk_model.specs.MarkKinds.{PartsMake, MadeOfParts, RowsOfKinds}
+use Rattle.xsk_model.specs.MarkKinds.{PartsMake, MadeOfParts, RowsOfKinds, BelongsTells, RangeTells}
 use Rattle.xsk_model.specs.declared.call.Mark.TheVariants as mark
 use Rattle.xsk_model.specs.declared.marks.MarkKind.TheVariants.{NeedFill, NeedTx, Kick, RxDone, Gone, TxDone, Cell, Closing, Acked, Bounced}
 
@@ -39,3 +39,27 @@ rows_of_kinds Cell = (omega arith, refl)
 rows_of_kinds Closing = (omega arith, refl)
 rows_of_kinds Acked = (omega arith, refl)
 rows_of_kinds Bounced = (omega arith, refl)
+
+pub belongs_tells : BelongsTells
+belongs_tells c (mark.NeedFill d) = (λ h. h, λ h. h)
+belongs_tells c (mark.NeedTx s) = (λ h. h, λ h. h)
+belongs_tells c (mark.Kick d) = (λ h. h, λ h. h)
+belongs_tells c (mark.RxDone d) = (λ h. h, λ h. h)
+belongs_tells c (mark.Gone d) = (λ h. h, λ h. h)
+belongs_tells c (mark.TxDone a) = (λ h. h, λ h. h)
+belongs_tells c (mark.Cell port index) = (λ h. h, λ h. h)
+belongs_tells c (mark.Closing s) = (λ h. h, λ h. h)
+belongs_tells c (mark.Acked s) = (λ h. h, λ h. h)
+belongs_tells c (mark.Bounced d) = (λ h. h, λ h. h)
+
+pub range_tells : RangeTells
+range_tells c (mark.NeedFill d) value = (λ h. h, λ h. h)
+range_tells c (mark.NeedTx s) value = (λ h. h, λ h. h)
+range_tells c (mark.Kick d) value = (λ h. h, λ h. h)
+range_tells c (mark.RxDone d) value = (λ h. h, λ h. h)
+range_tells c (mark.Gone d) value = (λ h. h, λ h. h)
+range_tells c (mark.TxDone a) value = (λ h. h, λ h. h)
+range_tells c (mark.Cell port index) value = (λ h. h, λ h. h)
+range_tells c (mark.Closing s) value = (λ h. h, λ h. h)
+range_tells c (mark.Acked s) value = (λ h. h, λ h. h)
+range_tells c (mark.Bounced d) value = (λ h. h, λ h. h)

@@ -1,8 +1,16 @@
 -- A mark by its parts: its kind, the number of what it belongs to and, of a cell, its index. The kinds are counted in the
 -- order of `mark_place`.
-use Rattle.std.specs.Prelude.{◌≡◌, ℕ, ◌<◌, ◌==◌, if◌then◌else◌, List, codes}
+use Rattle.std.specs.Prelude.{◌≡◌, ℕ, ◌^◌, ◌<◌, ◌≤◌, ◌⊎◌, ◌↔◌, ◌==◌, if◌then◌else◌, List, codes, length, slice_index}
+use Rattle.xsk_model.specs.Config.{Config, HasRing, map_of}
+use Rattle.xsk_model.specs.Marks.{HasMark, HoldsClosing, IsMarkNumber, apps_of}
+use Rattle.xsk_model.specs.declared.call.Ring.TheVariants.{Tx}
 use Rattle.xsk_model.specs.declared.call.Mark.{Mark}
 use Rattle.xsk_model.specs.declared.call.Mark.TheVariants as mark
+use Rattle.xsk_model.specs.declared.marks.Belongs.{Belongs}
+use Rattle.xsk_model.specs.declared.marks.Belongs.TheVariants.{Pair, Socket, Sender, Application, Map}
+use Rattle.xsk_model.specs.declared.marks.Range.{Range}
+use Rattle.xsk_model.specs.declared.marks.Range.TheVariants as range
+use Rattle.xsk_model.specs.declared.marks.Columns.{Columns}
 use Rattle.xsk_model.specs.declared.marks.MarkKind.{MarkKind}
 use Rattle.xsk_model.specs.declared.marks.MarkKind.TheVariants.{NeedFill, NeedTx, Kick, RxDone, Gone, TxDone, Cell, Closing, Acked, Bounced}
 
@@ -87,6 +95,33 @@ word_of Closing = codes "closing."
 word_of Acked = codes "acked."
 word_of Bounced = codes "bounced."
 
+-- what marks of a kind belong to, and the numbers that they may have
+abbrev pub columns_of : MarkKind → Columns
+columns_of NeedFill = record { belongs = Pair; range = range.Flag }
+columns_of NeedTx = record { belongs = Sender; range = range.Flag }
+columns_of Kick = record { belongs = Pair; range = range.Flag }
+columns_of RxDone = record { belongs = Pair; range = range.Flag }
+columns_of Gone = record { belongs = Pair; range = range.Flag }
+columns_of TxDone = record { belongs = Application; range = range.Flag }
+columns_of Cell = record { belongs = Map; range = range.Cell }
+columns_of Closing = record { belongs = Socket; range = range.Flag }
+columns_of Acked = record { belongs = Socket; range = range.Flag }
+columns_of Bounced = record { belongs = Pair; range = range.Count }
+
+-- what a mark of this number and index belongs to is there
+abbrev pub IsThere : Config → Belongs → ℕ → ℕ → Type 0
+IsThere c Pair number index = number < length c.pairs
+IsThere c Socket number index = number < length c.sockets
+IsThere c Sender number index = HasRing c (Tx number)
+IsThere c Application number index = number < apps_of c
+IsThere c Map number index = (number < c.ports) × (index < length (map_of c number))
+
+-- a number of a range
+abbrev pub IsInRange : Config → Range → ℕ → ℕ → ℕ → Type 0
+IsInRange c range.Flag number index value = value ≤ 1
+IsInRange c range.Cell number index value = (value ≡ slice_index (map_of c number) index) ⊎ ((value ≡ 0) × (s : ℕ) × HoldsClosing c number index s)
+IsInRange c range.Count number index value = value < 2 ^ 64
+
 -- ---- the laws of the parts
 
 -- each mark is that of its parts
@@ -100,3 +135,11 @@ MadeOfParts = (kind : MarkKind) (number index : ℕ) → (kind_of (mark_of kind 
 -- each kind stands in its row, and the rows are 0 to 9
 abbrev pub RowsOfKinds : Type 0
 RowsOfKinds = (kind : MarkKind) → (row_of kind < 10) × (kind_at (row_of kind) ≡ kind)
+
+-- a mark is there where what it belongs to is there
+abbrev pub BelongsTells : Type 0
+BelongsTells = (c : Config) (m : Mark) → HasMark c m ↔ IsThere c (columns_of (kind_of m)).belongs (number_of m) (index_of m)
+
+-- a mark's numbers are those of its range
+abbrev pub RangeTells : Type 0
+RangeTells = (c : Config) (m : Mark) (value : ℕ) → IsMarkNumber c m value ↔ IsInRange c (columns_of (kind_of m)).range (number_of m) (index_of m) value

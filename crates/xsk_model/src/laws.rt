@@ -8,7 +8,7 @@ ghost use Rattle.xsk_model.specs.Laws.{LastIsGift, OneMore, CallersExist, LegalS
 ghost use Rattle.xsk_model.specs.Laws.{FewMoved, FromFill, ExactCompletion, BodiesDontMatter};
 ghost use Rattle.xsk_model.specs.Laws.{LegalCells, LegalClosings, LegalAcks, LegalBounces, CellsFall, ClosedCells, AckedIsClosed, EndedRings, NothingReserved, NeverLate, NothingCloses, BouncedInOrder, SentGrows, AllCompleted};
 ghost use Rattle.xsk_model.specs.Laws.{ShapesDecide, RegularSeats};
-ghost use Rattle.xsk_model.specs.MarkKinds.{PartsMake, MadeOfParts, RowsOfKinds};
+ghost use Rattle.xsk_model.specs.MarkKinds.{PartsMake, MadeOfParts, RowsOfKinds, BelongsTells, RangeTells};
 ghost use Rattle.xsk_model.specs.Asks.{CallsSplit, AsksJoin, RepliesSplit, AnswersJoin};
 
 /// After each prefix of a history each frame has one holder: a caller that has it, or a ring in which it is out.
@@ -340,4 +340,14 @@ pub fn made_of_parts()
 /// Each kind stands in its row.
 pub fn rows_of_kinds()
     ensures { RowsOfKinds }
+{}
+
+/// A mark exists where what it belongs to exists.
+pub fn belongs_tells()
+    ensures { BelongsTells }
+{}
+
+/// A mark's numbers are those of its range.
+pub fn range_tells()
+    ensures { RangeTells }
 {}

@@ -1,8 +1,41 @@
-//! The kinds of marks, and a mark by its kind and its numbers.
+//! The kinds of marks, what is known of each, and a mark by its kind and its numbers.
 ghost use Rattle.std.specs.Prelude.{◌≡◌, ◌<◌, ◌≤◌, length};
-ghost use Rattle.xsk_model.specs.MarkKinds.{index_of, kind_at, kind_of, mark_of, number_of, row_of, word_of};
+ghost use Rattle.xsk_model.specs.MarkKinds.{columns_of, index_of, kind_at, kind_of, mark_of, number_of, row_of, word_of};
 
 use crate::call::Mark;
+
+/// What the marks of a kind belong to.
+#[derive(Clone, Copy, Debug, PartialEq, Eq)]
+pub enum Belongs {
+    /// A pair.
+    Pair,
+    /// A socket.
+    Socket,
+    /// A socket that has TX.
+    Sender,
+    /// An application.
+    Application,
+    /// An entry of a port's XSKMAP.
+    Map,
+}
+
+/// The numbers that the marks of a kind may have.
+#[derive(Clone, Copy, Debug, PartialEq, Eq)]
+pub enum Range {
+    /// 0 and 1.
+    Flag,
+    /// The configured number and, where that is the socket to close, 0.
+    Cell,
+    /// Any count.
+    Count,
+}
+
+/// What is known of the marks of a kind.
+#[derive(Clone, Copy, Debug, PartialEq, Eq)]
+pub struct Columns {
+    pub belongs: Belongs,
+    pub range: Range,
+}
 
 /// The kinds of marks, in the order of their places.
 #[derive(Clone, Copy, Debug, PartialEq, Eq)]
@@ -130,6 +163,25 @@ impl MarkKind {
             8 => MarkKind::Acked,
             _ => MarkKind::Bounced,
         }
+    }
+
+    /// What its marks belong to, and the numbers that they may have.
+    pub fn columns(self) -> Columns
+        ensures { result ≡ columns_of self }
+    {
+        let (belongs, range) = match self {
+            MarkKind::NeedFill => (Belongs::Pair, Range::Flag),
+            MarkKind::NeedTx => (Belongs::Sender, Range::Flag),
+            MarkKind::Kick => (Belongs::Pair, Range::Flag),
+            MarkKind::RxDone => (Belongs::Pair, Range::Flag),
+            MarkKind::Gone => (Belongs::Pair, Range::Flag),
+            MarkKind::TxDone => (Belongs::Application, Range::Flag),
+            MarkKind::Cell => (Belongs::Map, Range::Cell),
+            MarkKind::Closing => (Belongs::Socket, Range::Flag),
+            MarkKind::Acked => (Belongs::Socket, Range::Flag),
+            MarkKind::Bounced => (Belongs::Pair, Range::Count),
+        };
+        Columns { belongs, range }
     }
 
     /// Its word in a journal, with the dot before the number.

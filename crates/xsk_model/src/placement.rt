@@ -5,7 +5,9 @@ ghost use Rattle.xsk_model.specs.Config.{Config as Setting, IsConfig, HasRing};
 ghost use Rattle.xsk_model.specs.Rings.{place as place_of_ring, places_of};
 ghost use Rattle.xsk_model.specs.Marks.{HasMark, mark_place as place_of_mark, mark_places_of, flags_of, cells_end_of};
 ghost use Rattle.xsk_model.specs.Bases.{ring_bases, mark_bases};
+ghost use Rattle.xsk_model.specs.MarkKinds.{IsThere};
 
+use crate::marks::Belongs;
 use crate::steering::applications;
 use crate::{Config, Mark, Ring};
 
@@ -143,18 +145,22 @@ fn cells_end(config: &Config) -> usize
 }
 
 /// Whether what a mark belongs to exists.
+#[tactic(auto, using(crate::proofs::MarkParts::belongs_tells))]
 pub fn has_mark(config: &Config, mark: Mark) -> bool
     ensures { IsTrue result ↔ HasMark config.now mark }
 {
-    let pairs = config.pairs().len();
-    match mark {
-        Mark::NeedTx(socket) => has_ring(config, Ring::Tx(socket)),
-        Mark::NeedFill(pair) | Mark::Kick(pair) | Mark::RxDone(pair) | Mark::Gone(pair) => {
-            (pair as usize) < pairs
-        }
-        Mark::Closing(socket) | Mark::Acked(socket) => (socket as usize) < config.sockets().len(),
-        Mark::Bounced(pair) => (pair as usize) < pairs,
-        Mark::TxDone(app) => app < applications(config),
-        Mark::Cell(port, index) => port < config.ports() && index < config.cells(port),
+    let belongs = mark.kind().columns().belongs;
+    is_there(config, belongs, mark.number(), mark.index())
+}
+
+fn is_there(config: &Config, belongs: Belongs, number: u32, index: u32) -> bool
+    ensures { IsTrue result ↔ IsThere config.now belongs number index }
+{
+    match belongs {
+        Belongs::Pair => (number as usize) < config.pairs().len(),
+        Belongs::Socket => (number as usize) < config.sockets().len(),
+        Belongs::Sender => has_ring(config, Ring::Tx(number)),
+        Belongs::Application => number < applications(config),
+        Belongs::Map => number < config.ports() && index < config.cells(number),
     }
 }
