@@ -14,7 +14,6 @@ ghost use Rattle.xsk_rings.specs.Rounds.{Rests, mine_of};
 ghost use Rattle.xsk_rings.specs.Checked.{NotesOwn};
 
 use crate::calls::RingCalls;
-use crate::serving;
 use std::alloc::Global;
 use std::marker::{Brand, Model};
 use std::sync::ledger::{Blank, Ledger};
@@ -77,13 +76,7 @@ impl CheckedPass {
         requires { (items : List Thing) × MayAsk shared.now self.now (joined_call ask items) }
         ensures { result ≡ is_covered self.now (joined_call ask []) }
     {
-        match ask {
-            Ask::Reserve(ring, count) | Ask::Peek(ring, count) => {
-                let at = shared.ring_place(ring);
-                self.pass.knows(shared, ring, at, count)
-            }
-            Ask::Submit(_) | Ask::Release(..) | Ask::Swap(..) | Ask::Look(_) => false,
-        }
+        self.pass.covers(shared, ask)
     }
 
     /// Makes a Reserve by a look at the consumer's count, whatever is known of it, and counts one look.
@@ -204,7 +197,7 @@ fn reserve_noted<L: Ledger>(
 {
     let config = shared.config();
     let at = shared.ring_place(ring);
-    let answer = serving::reserve_anew(pass, shared, ring, at, count, steps);
+    let answer = pass.reserve_step(shared, ring, at, count, steps);
     let none = Batch::new();
     standing.got(config, Ask::Reserve(ring, count), answer, &none);
     answer
