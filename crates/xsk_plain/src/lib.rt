@@ -12,6 +12,6 @@ mod ring_store;
 mod unlogged;
 
 pub use checked::Checked;
-pub use plain::{OpenRefused, Plain, items_room, payload_room};
+pub use plain::{OpenRefused, Plain, items_room};
 pub use ring_store::RingCounts;
 pub use unlogged::Unlogged;
