@@ -10,6 +10,8 @@ ghost use Rattle.xsk_model.specs.Expected.{IsReplyTo, IsReserved, IsPeeked, IsOl
 ghost use Rattle.xsk_model.specs.Object.{State, reply_at, after};
 ghost use Rattle.xsk_model.specs.Opening.{AreFrames, opening};
 ghost use Rattle.xsk_model.specs.Stored.{stored_entry};
+ghost use Rattle.xsk_model.specs.declared.call.Call.{Call};
+ghost use Rattle.xsk_model.specs.declared.call.Reply.{Reply};
 ghost use Rattle.xsk_plain.specs.Counts.{counts_of, number_of};
 ghost use Rattle.xsk_plain.specs.Engine.{Shows, CanPerform, frames_out, part_in};
 ghost use Rattle.xsk_log.specs.Left.{left_of};
