@@ -1,9 +1,8 @@
 //! The programs of a command, in a chain.
 ghost use Rattle.std.specs.Prelude.{◌≡◌, ◌≤◌, IfOk, length};
 ghost use Rattle.xsk_prog.specs.Chain.{AllObey, rules_of};
-ghost use Rattle.xsk_prog.specs.Program.{Obeys};
+ghost use Rattle.xsk_prog.specs.Program.{XdpProgram as AProgram, Obeys};
 ghost use Rattle.xsk_prog.specs.Rules.{HasSockets, IsSocketCount};
-ghost use Rattle.xsk_prog.specs.declared.program.XdpProgram.{XdpProgram as AProgram};
 ghost use Rattle.xsk_prog.specs.declared.rule.Rule.{Rule as ARule};
 ghost use Rattle.xsk_cli.specs.Outcome.{rule_by, rules_by};
 

@@ -11,8 +11,7 @@ use Rattle.xsk_umem.specs.PacketList.{PacketList}
 use Rattle.xsk_prog.specs.Chain.{SamePrograms, rules_of}
 use Rattle.xsk_prog.specs.Rules.{MeetsChain}
 use Rattle.xsk_prog.proofs.Same.{same_once, same_answers, same_rules}
-use Rattle.xsk_prog.specs.Program.{unasked}
-use Rattle.xsk_prog.specs.declared.program.XdpProgram.{XdpProgram}
+use Rattle.xsk_prog.specs.Program.{XdpProgram, unasked}
 use Rattle.xsk_prog.specs.declared.rule.Verdict.{Verdict}
 use Rattle.xsk_turns.specs.Turns.{Judged}
 use Rattle.xsk_turns.specs.declared.disposal.Disposal.{Disposal}

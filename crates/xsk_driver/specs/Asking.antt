@@ -5,7 +5,7 @@ use denote.Ref.{Bor}
 use Rattle.xsk_umem.specs.PacketList.{PacketList}
 use Rattle.xsk_prog.specs.Chain.{AskedOnce, ChainAnswers, rules_of}
 use Rattle.xsk_prog.specs.Rules.{MeetsChain}
-use Rattle.xsk_prog.specs.declared.program.XdpProgram.{XdpProgram}
+use Rattle.xsk_prog.specs.Program.{XdpProgram}
 use Rattle.xsk_prog.specs.declared.rule.Verdict.{Verdict}
 use Rattle.xsk_turns.specs.Turns.{Judged, Kept}
 use Rattle.xsk_driver.specs.Stands.{packet_at}

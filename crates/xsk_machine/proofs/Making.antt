@@ -14,7 +14,7 @@ use Rattle.xsk_model.specs.Config.{Config, pair_at}
 use Rattle.xsk_model.specs.declared.config.PairInfo.{PairInfo}
 use Rattle.xsk_model.specs.Expected.{nothing}
 use Rattle.xsk_prog.specs.Chain.{AllObey, SamePrograms}
-use Rattle.xsk_prog.specs.declared.program.XdpProgram.{XdpProgram}
+use Rattle.xsk_prog.specs.Program.{XdpProgram}
 use Rattle.xsk_prog.specs.declared.rule.Verdict.{Verdict}
 use Rattle.xsk_turns.specs.Verdicts.{EachHas, IsGiven}
 use Rattle.xsk_turns.specs.Workers.{Setting, AreGiven, packets_to}

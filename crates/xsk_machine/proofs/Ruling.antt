@@ -4,7 +4,7 @@ use Rattle.std.specs.Fn.{Shared}
 use denote.Ref.{Bor}
 use Rattle.xsk_model.specs.Config.{pair_at}
 use Rattle.xsk_prog.specs.Chain.{rules_of}
-use Rattle.xsk_prog.specs.declared.program.XdpProgram.{XdpProgram}
+use Rattle.xsk_prog.specs.Program.{XdpProgram}
 use Rattle.xsk_prog.specs.declared.rule.Verdict.{Verdict}
 use Rattle.xsk_turns.specs.Workers.{Setting, packets_to, AreGiven, IsRuled}
 use Rattle.xsk_driver.specs.Asking.{IsAnswer}

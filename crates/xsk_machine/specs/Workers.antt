@@ -9,7 +9,7 @@ use Rattle.xsk_model.specs.declared.config.PairInfo.{PairInfo}
 use Rattle.xsk_model.specs.Entry.{Told}
 use Rattle.xsk_model.specs.Expected.{Expected, nothing}
 use Rattle.xsk_model.specs.declared.call.Act.{Act}
-use Rattle.xsk_prog.specs.declared.program.XdpProgram.{XdpProgram}
+use Rattle.xsk_prog.specs.Program.{XdpProgram}
 use Rattle.xsk_prog.specs.declared.rule.Verdict.{Verdict}
 use Rattle.xsk_turns.specs.Workers.{Setting, packets_to}
 use Rattle.xsk_turns.specs.Mangling.{plain}

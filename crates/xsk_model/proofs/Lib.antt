@@ -19,6 +19,7 @@ pub mod Roles
 pub mod Few
 pub mod MarkPlaces
 pub mod MarkNumbers
+pub mod MarkParts
 pub mod Theorems
 pub mod OwnRuns
 pub mod Sendings

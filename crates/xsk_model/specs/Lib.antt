@@ -3,8 +3,9 @@
 -- Entry, Object: calls, the reply and the state that each leaves. Own: what a caller's own calls and replies leave. Legal, Swaps, Ends: which call
 --   it may make next. Opening, History: legal histories from the start on. Holders, Homes: who has a frame, and where it is at home.
 -- Descriptor, Packets, Steering, Sent: packets in frames, where they go, and what a driver sent. Laws: what holds of all histories.
--- For code and proofs: Asks, Expected, Numbers, OtherWords, Parts, Sizes, Stored.
+-- For code and proofs: Asks, Bases, Expected, MarkKinds, Numbers, OtherWords, Parts, Sizes, Stored.
 pub mod Asks
+pub mod Bases
 pub mod Config
 pub mod Descriptor
 pub mod Entry
@@ -14,6 +15,7 @@ pub mod Homes
 pub mod Laws
 pub mod Legal
 pub mod Limits
+pub mod MarkKinds
 pub mod Marks
 pub mod Numbers
 pub mod Object

@@ -1,5 +1,6 @@
 //! The laws of the object, each the contract of a function that does nothing. They are stated in `specs/Laws.antt`,
-//! and those of calls and replies without their items in `specs/Asks.antt`.
+//! those of calls and replies without their items in `specs/Asks.antt`, and those of the parts of marks in
+//! `specs/MarkKinds.antt`.
 
 ghost use Rattle.xsk_model.specs.Laws.{OneHolder, FramesByOwn, HadAndDistinct, InOrder, PeekInOrder, PartsByOwn, ItemsByOwn, WithinSize, LawfulItems, FittingReplies, FittingGifts, OwnEntries, WithinRing, CountsAgree, FewInRings, OneCompletion, SentInOrder, MarkNumbers, OwnPlaces, OwnMarkPlaces, TwoOwners, LeavesOthers, LeavesFolds};
 ghost use Rattle.xsk_model.specs.Laws.{FramesStay, FramesApart, FramesBelow, SubmitsOwn, OpeningIs, HeldAndOut, CountsGrow, PeekFinds, ReserveFinds};
@@ -7,6 +8,7 @@ ghost use Rattle.xsk_model.specs.Laws.{LastIsGift, OneMore, CallersExist, LegalS
 ghost use Rattle.xsk_model.specs.Laws.{FewMoved, FromFill, ExactCompletion, BodiesDontMatter};
 ghost use Rattle.xsk_model.specs.Laws.{LegalCells, LegalClosings, LegalAcks, LegalBounces, CellsFall, ClosedCells, AckedIsClosed, EndedRings, NothingReserved, NeverLate, NothingCloses, BouncedInOrder, SentGrows, AllCompleted};
 ghost use Rattle.xsk_model.specs.Laws.{ShapesDecide, RegularSeats};
+ghost use Rattle.xsk_model.specs.MarkKinds.{PartsMake, MadeOfParts, RowsOfKinds, BelongsTells, RangeTells};
 ghost use Rattle.xsk_model.specs.Asks.{CallsSplit, AsksJoin, RepliesSplit, AnswersJoin};
 
 /// After each prefix of a history each frame has one holder: a caller that has it, or a ring in which it is out.
@@ -323,4 +325,29 @@ pub fn replies_split()
 /// An answer that is joined with items splits to the answer, and to the items exactly where it has such beside it.
 pub fn answers_join()
     ensures { AnswersJoin }
+{}
+
+/// Each mark is that of its kind, its number and its index.
+pub fn parts_make()
+    ensures { PartsMake }
+{}
+
+/// A mark has the kind and the number that it was made of.
+pub fn made_of_parts()
+    ensures { MadeOfParts }
+{}
+
+/// Each kind stands in its row.
+pub fn rows_of_kinds()
+    ensures { RowsOfKinds }
+{}
+
+/// A mark exists where what it belongs to exists.
+pub fn belongs_tells()
+    ensures { BelongsTells }
+{}
+
+/// A mark's numbers are those of its range.
+pub fn range_tells()
+    ensures { RangeTells }
 {}

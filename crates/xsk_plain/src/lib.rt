@@ -1,7 +1,6 @@
 //! The AF_XDP object on one thread, with the log of all calls on it, or without.
 #![tactic(auto)]
 
-mod bases;
 mod checked;
 pub mod laws;
 mod moving;

@@ -1,18 +1,19 @@
 //! The rings and marks of a configuration, and single calls on them.
 ghost use Rattle.std.specs.Prelude.{◌≡◌, vec_len};
+ghost use Rattle.xsk_model.specs.Bases.{ring_bases, mark_bases};
 ghost use Rattle.xsk_model.specs.Marks.{mark_places_of};
 ghost use Rattle.xsk_model.specs.Sizes.{sizes_of};
-ghost use Rattle.xsk_plain.specs.Bases.{ring_bases, mark_bases};
 ghost use Rattle.xsk_plain.specs.Stores.{sizes_in};
 
-use crate::bases::{first_marks, first_rings, mark_number, ring_number};
 use crate::moving::{give_back, put_items, put_unnoted, take_items, take_unnoted};
 use crate::opening::{fill_pools, open_marks, open_rings};
 use crate::ring_store::{RingCounts, RingStore};
 use std::alloc::Global;
 use std::mem;
 use xsk_log::Log;
-use xsk_model::placement::{has_mark, has_ring};
+use xsk_model::placement::{
+    first_marks, first_rings, has_mark, has_ring, mark_number, ring_number,
+};
 use xsk_model::{Ask, Config, Mark, Ring};
 use xsk_umem::{Batch, Frames, MOST_ITEMS};
 

@@ -11,8 +11,7 @@ use Rattle.xsk_prog.specs.declared.rule.Rule.{Rule}
 use Rattle.xsk_prog.specs.declared.rule.Rule.TheVariants.{Redirect as ByClass, Drop as DropAll, Pass as PassAll, EtherType, Fixed, AtMost, Bounce as BounceAll, BounceType}
 use Rattle.xsk_prog.specs.declared.rule.Verdict.{Verdict}
 use Rattle.xsk_prog.specs.declared.rule.Verdict.TheVariants.{Drop, Pass, Redirect, Bounce}
-use Rattle.xsk_prog.specs.declared.program.XdpProgram.{XdpProgram}
-use Rattle.xsk_prog.specs.Program.{Answers, Obeys, once_more}
+use Rattle.xsk_prog.specs.Program.{XdpProgram, Answers, Obeys, once_more}
 use Rattle.xsk_prog.specs.Rules.{Meets, MeetsChain, verdict_of, or_next, chain_verdict_of, is_exact, are_exact, MeetsOwnChain, OneChainVerdict}
 use Rattle.xsk_prog.specs.Chain.{AllObey, AskedOnce, ChainAnswers, rules_of}
 

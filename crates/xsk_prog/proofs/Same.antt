@@ -4,8 +4,7 @@ use Rattle.std.specs.Fn.{Shared}
 use denote.Ref.{Bor}
 use Rattle.xsk_prog.specs.declared.rule.Rule.{Rule}
 use Rattle.xsk_prog.specs.declared.rule.Verdict.{Verdict}
-use Rattle.xsk_prog.specs.declared.program.XdpProgram.{XdpProgram}
-use Rattle.xsk_prog.specs.Program.{unasked}
+use Rattle.xsk_prog.specs.Program.{XdpProgram, unasked}
 use Rattle.xsk_prog.specs.Chain.{AskedOnce, ChainAnswers, SamePrograms, rules_of}
 
 module _ {F : Type 0} (g : Shared F (Bor (List ℕ) × (ℕ × Unit {0})) Verdict) (packet : List ℕ) (queue : ℕ) (verdict : Verdict) where

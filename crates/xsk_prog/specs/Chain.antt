@@ -5,8 +5,7 @@ use denote.Ref.{Bor}
 use Rattle.xsk_prog.specs.declared.rule.Rule.{Rule}
 use Rattle.xsk_prog.specs.declared.rule.Verdict.{Verdict}
 use Rattle.xsk_prog.specs.declared.rule.Verdict.TheVariants.{Pass}
-use Rattle.xsk_prog.specs.declared.program.XdpProgram.{XdpProgram}
-use Rattle.xsk_prog.specs.Program.{Answers, Obeys, once_more, unasked}
+use Rattle.xsk_prog.specs.Program.{XdpProgram, Answers, Obeys, once_more, unasked}
 
 abbrev pub rules_of : {F : Type 0} → List (XdpProgram F) → List Rule
 rules_of programs = map (λ program. program.rule) programs

@@ -32,9 +32,9 @@ pub struct Chain<F> {
 
 impl<F> Model for Chain<F> {
     ghost use Rattle.std.specs.Prelude.{List, length, ◌≤◌};
-    ghost use Rattle.xsk_prog.specs.declared.program.XdpProgram.{XdpProgram};
+    ghost use Rattle.xsk_prog.specs.Program.{XdpProgram as Attached};
 
-    ghost Value = { List (XdpProgram F) };
+    ghost Value = { List (Attached F) };
 
     ghost view = { λ c. c.programs.items };
 

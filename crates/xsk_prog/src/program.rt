@@ -4,6 +4,7 @@ ghost use Rattle.xsk_prog.specs.Rules.{HasSockets, IsRuled, Meets};
 ghost use Rattle.xsk_prog.specs.Program.{Answers, Obeys, once_more};
 
 use crate::{Rule, Verdict};
+use std::marker::Model;
 
 /// A program attached to a device: a closure beside the rule that its answers meet, on every packet of 14 to 262,144 bytes
 /// and every queue below 4. It counts how often its closure was called.
@@ -12,6 +13,14 @@ pub struct XdpProgram<F> {
     rule: Rule,
     decide: F,
     asked: u64,
+}
+
+impl<F> Model for XdpProgram<F> {
+    ghost use Rattle.xsk_prog.specs.Program.{XdpProgram as Attached};
+
+    ghost Value = { Attached F };
+
+    ghost view = { λ p. record { rule = p.rule; decide = p.decide; asked = p.asked } };
 }
 
 impl<F: Fn(&[u8], u32) -> Verdict> XdpProgram<F> {

@@ -5,7 +5,7 @@ use denote.Ref.{Bor}
 use Rattle.xsk_umem.specs.Frame.{Frame}
 use Rattle.xsk_prog.specs.Chain.{rules_of}
 use Rattle.xsk_prog.specs.Rules.{are_exact}
-use Rattle.xsk_prog.specs.declared.program.XdpProgram.{XdpProgram}
+use Rattle.xsk_prog.specs.Program.{XdpProgram}
 use Rattle.xsk_prog.specs.declared.rule.Verdict.{Verdict}
 use Rattle.xsk_turns.proofs.Verdicts.{one_setting}
 use Rattle.xsk_turns.specs.Workers.{Setting, AreGiven, ruled_by}

@@ -10,7 +10,7 @@ use Rattle.xsk_model.specs.Steering.{driver_on}
 use Rattle.xsk_model.specs.Entry.{Entry, own}
 use Rattle.xsk_model.specs.History.{IsHistory, state_after}
 use Rattle.xsk_model.specs.Holders.{HasOneHolder}
-use Rattle.xsk_prog.specs.declared.program.XdpProgram.{XdpProgram}
+use Rattle.xsk_prog.specs.Program.{XdpProgram}
 use Rattle.xsk_prog.specs.declared.rule.Verdict.{Verdict}
 use Rattle.xsk_turns.specs.Owned.{IsSteady}
 use Rattle.xsk_turns.specs.Wakes.{NoWakeIsLost}
