@@ -1,16 +1,16 @@
-use Rattle.std.proofs.Common.{rules, sym, ap, subst, ◌∙◌}
+use Rattle.std.proofs.Common.{Option, rules, sym, ap, subst, ◌∙◌}
+use Rattle.std.specs.Prelude.{IfSome}
 use Rattle.xsk_umem.specs.Geometry.{Geometry}
 use Rattle.xsk_model.specs.Asks.{joined_call}
 use Rattle.xsk_model.specs.Config.{Config}
 use Rattle.xsk_model.specs.Entry.{own}
-use Rattle.xsk_model.specs.Legal.{IsLegal}
-use Rattle.xsk_model.specs.declared.call.Call.{Call}
 use Rattle.xsk_legal.specs.Why.{Fails}
+use Rattle.xsk_legal.specs.declared.why.Illegal.{Illegal}
 use Rattle.xsk_plain.specs.Rooms.{payload_bytes}
 use Rattle.xsk_audit.specs.Shelf.{AreInPlace, IsLent, Lacks, descs_of}
 use Rattle.xsk_audit.proofs.Asking.{asks-too}
 use Rattle.xsk_audit.proofs.Following.{lacking, refused}
-use Rattle.xsk_audit.proofs.Making.{made-as, as-many, not-true}
+use Rattle.xsk_audit.proofs.Making.{made-as, as-many}
 use Rattle.xsk_audit.proofs.why.try_call.Goals as goal
 
 pub lend-requires-clause-places : goal.lend-requires-clause-places
