@@ -6,13 +6,14 @@ use Rattle.xsk_model.specs.Config.{Config, pool_of}
 use Rattle.xsk_model.specs.Object.{State}
 use Rattle.xsk_model.specs.Entry.{Entry}
 use Rattle.xsk_model.specs.Opening.{IsOpened, opening}
-use Rattle.xsk_model.specs.History.{GoesOn, state_after}
+use Rattle.xsk_model.specs.History.{GoesOn, IsHistory, state_after}
 use Rattle.xsk_model.specs.declared.call.Reply.{Reply}
 use Rattle.xsk_model.proofs.Histories.{after_all-append}
 use Rattle.xsk_side.specs.Object.{Entry as SideEntry}
-use Rattle.xsk_side.specs.Possible.{IsHistory as IsSideHistory}
+use Rattle.xsk_side.specs.Possible.{IsHistory as IsSideHistory, Possible}
+use Rattle.xsk_side.proofs.Wider.{wider_kernels}
 use Rattle.xsk_sides.specs.Laws.{Journals}
-use Rattle.xsk_sides.specs.Sides.{setting_of, side_call, party_of, program_calls}
+use Rattle.xsk_sides.specs.Sides.{setting_of, side_call, party_of, program_calls, recorded}
 use Rattle.xsk_sides.proofs.Rings.{pushed}
 use Rattle.xsk_sides.proofs.Parties.{both, own_both}
 use Rattle.xsk_sides.proofs.Steps.{Along, along_next}
@@ -36,11 +37,14 @@ goes c frames past (e ∷ es) side along rest =
     goes c frames (past ++ e ∷ []) es (pushed (party_of c e.who) (side_call e.call e.reply) side) next
     (subst (λ (s : State). GoesOn c s (past ++ e ∷ []) es) (sym (after_all-append c (opening c frames) past (e ∷ []))) rest.2)
 
-pub journals : Journals
-journals c frames h history =
+possible : (c : Config) (frames : List Frame) (h : List Entry) → IsHistory c frames h → Possible (setting_of c) (recorded c frames h)
+possible c frames h history =
     let start : List SideEntry = first c frames history.opened in
     record {
       history = both c h start;
       legal = goes c frames [] h start (opened c frames history.opened) history.legal;
       own = own_both c h start ∙ ap (program_calls c h) (own_fills c.geometry (pool_of c) 0 (length c.pairs) frames []);
     }
+
+pub journals : Journals
+journals c frames h rules history wider = wider_kernels (setting_of c) rules (recorded c frames h) wider (possible c frames h history)

@@ -273,6 +273,6 @@ module _ (c : Config) (frames : List Frame) (past : List Entry) (side : List Sid
       legal = followed (setting_of c) party side (side_call call reply) along.legal (follows call legal);
       same =
           subst (λ (s : State). IsSame c s next) (sym (after_all-append c (opening c frames) past (last ∷ [])))
-          (same_step c now who call reply party side along.same legal.known sound.rings refl);
+          (same_step c now who call party side along.same legal.known sound.rings);
       has = holds_next;
     }

@@ -5,7 +5,7 @@ use Rattle.xsk_umem.specs.Frame.{Frame}
 use Rattle.xsk_umem.specs.Geometry.{Geometry, base_of}
 use Rattle.xsk_umem.specs.declared.batch.Item.{Item}
 use Rattle.xsk_umem.specs.declared.batch.XdpDesc.{XdpDesc}
-use Rattle.xsk_model.specs.Config.{Config}
+use Rattle.xsk_model.specs.Config.{Config, pool_of}
 use Rattle.xsk_model.specs.Rings.{pair_on}
 use Rattle.xsk_model.specs.Entry.{Entry}
 use Rattle.xsk_model.specs.declared.config.SocketInfo.{SocketInfo}
@@ -84,3 +84,8 @@ opening_calls g pool d zero frames calls = calls
 opening_calls g pool d (suc pairs) frames calls =
     opening_calls g pool (d + 1) pairs (drop pool frames)
     (a_side.Submit (Fill d) (map (base_entry g) (take pool frames)) ∷ a_side.Reserve (Fill d) pool an_answer.Granted ∷ calls)
+
+-- ---- what a recording of all applications has, from the opening on
+
+abbrev pub recorded : Config → List Frame → List Entry → List SideCall
+recorded c frames h = program_calls c h (opening_calls c.geometry (pool_of c) 0 (length c.pairs) frames [])

@@ -2,7 +2,8 @@
 
 ghost use Rattle.xsk_sides.specs.Laws.{Journals};
 
-/// The applications' calls in a history of the object are possible, behind those that fill FILL.
+/// The applications' calls in a history of the object are possible, behind those that fill FILL, by the rules of copy mode and by all
+/// wider ones.
 pub fn journals()
     ensures { Journals }
 {}
