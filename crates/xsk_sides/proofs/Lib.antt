@@ -1,0 +1,12 @@
+pub mod Rings
+pub mod Setting
+pub mod Places
+pub mod Items
+pub mod Parties
+pub mod Sources
+pub mod Holding
+pub mod Received
+pub mod Completed
+pub mod Steps
+pub mod Opening
+pub mod Journals
