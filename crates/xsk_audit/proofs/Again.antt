@@ -100,7 +100,7 @@ mark-again (Gone n) rest fits other = ap mark_at (append_assoc (codes "gone.") (
 mark-again (TxDone n) rest fits other = ap mark_at (append_assoc (codes "txdone.") (decimal n) rest) ∙ marked-again kinds.TxDone n rest fits other
 mark-again (Cell port index) rest fits other =
     ap mark_at (append_assoc (codes "cell." ++ decimal port ++ codes ".") (decimal index) rest ∙ append_assoc (codes "cell." ++ decimal port) (codes ".") (decimal index ++ rest)
-        ∙ append_assoc (codes "cell.") (decimal port) (codes "." ++ (decimal index ++ rest)))
+    ∙ append_assoc (codes "cell.") (decimal port) (codes "." ++ (decimal index ++ rest)))
     ∙ cell-again port index rest fits.0 fits.1 other
 mark-again (Closing n) rest fits other = ap mark_at (append_assoc (codes "closing.") (decimal n) rest) ∙ marked-again kinds.Closing n rest fits other
 mark-again (Acked n) rest fits other = ap mark_at (append_assoc (codes "acked.") (decimal n) rest) ∙ marked-again kinds.Acked n rest fits other
