@@ -2,7 +2,7 @@
 ghost use Rattle.xsk_rings.specs.Rounds.{Rests};
 
 use std::thread;
-use xsk_model::{Call, Reply, Ring};
+use xsk_model::{Ask, Call, Reply, Ring};
 use xsk_rings::{CheckedPass, RingCalls};
 use xsk_table::Shared;
 use xsk_umem::{Batch, Item, XdpDesc};
@@ -63,14 +63,17 @@ fn makes(shared: &Shared, pass: &mut CheckedPass, call: Call, counts: &mut Count
     requires { Rests shared.now pass.old }
     ensures { Rests shared.now pass.new }
 {
-    if !pass.allows(shared, &call) {
+    let mut items = Batch::new();
+    let ask = call.split(&mut items);
+    if !pass.allows(shared, ask, &items) {
         return None;
     }
-    let looked = match &call {
-        Call::Reserve(..) | Call::Peek(..) => !pass.covers(shared, &call),
-        Call::Submit(..) | Call::Release(..) | Call::Swap(..) | Call::Look(_) => false,
+    let looked = match ask {
+        Ask::Reserve(..) | Ask::Peek(..) => !pass.covers(shared, ask),
+        Ask::Submit(_) | Ask::Release(..) | Ask::Swap(..) | Ask::Look(_) => false,
     };
-    let reply = pass.perform(shared, call);
+    let answer = pass.serve(shared, ask, &mut items);
+    let reply = answer.joined(items);
     counts.note(&reply, looked);
     Some(reply)
 }

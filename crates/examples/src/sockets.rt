@@ -3,12 +3,12 @@
 ghost use Rattle.std.specs.Prelude.{◌≡◌, IfOk};
 ghost use Rattle.xsk_model.specs.Opening.{AreFrames};
 
-use anyhow::{Result, bail, ensure};
+use anyhow::{Result, ensure};
 use std::alloc::Global;
-use xsk_model::{Call, Config, Reply, Ring};
-use xsk_plain::{Checked, payload_room};
+use xsk_model::{Ask, Config, Ring};
+use xsk_plain::{Checked, items_room};
 use xsk_socket::{RingKind, Setup, XDP_COPY, XDP_SHARED_UMEM};
-use xsk_umem::{Frames, Geometry, MOST_ITEMS, Umem};
+use xsk_umem::{Batch, Frames, Geometry, MOST_ITEMS, Umem};
 
 pub fn from_socket_to_traffic<R: Print>(rt: &R, alloc: Global) -> Result<()> {
     let (geometry, frames) = registered(alloc, 16_384, 2048)?;
@@ -53,26 +53,25 @@ fn add_rings(setup: &mut Setup, socket: u32, kind: RingKind) -> Result<()>
 
 /// Makes a caller's Peek where it is legal, and else tells why it isn't.
 fn peek<R: Print>(rt: &R, checked: &mut Checked, who: u32, ring: Ring) -> Result<()> {
-    let call = Call::Peek(ring, MOST_ITEMS);
+    let ask = Ask::Peek(ring, MOST_ITEMS);
+    let mut items = Batch::new();
     let _chunk = checked.config().geometry();
-    checked.reserve_log(1, payload_room(&call))?;
-    match checked.why_not(who, &call) {
-        None => tell(rt, who, checked.perform(who, call))?,
-        Some(why) => println!(rt; "caller {who} may not: {why}")?,
+    checked.reserve_log(1, items_room(&items))?;
+    if let Some(why) = checked.why_not(who, ask, &items) {
+        println!(rt; "caller {who} may not: {why}")?;
+        return Ok(());
     }
-    Ok(())
+    let _answer = checked.serve(who, ask, &mut items);
+    tell(rt, who, &items)
 }
 
 /// The frames that a caller got.
-fn tell<R: Print>(rt: &R, who: u32, reply: Reply) -> Result<()> {
-    match &reply {
-        Reply::Items(items) => {
-            for place in 0..items.len() {
-                println!(rt; "caller {who} has the frame at {}", items.desc(place).addr)?;
-            }
-        }
-        Reply::Empty => println!(rt; "caller {who} finds nothing")?,
-        _ => bail!("a Peek has no other reply"),
+fn tell<R: Print>(rt: &R, who: u32, items: &Batch) -> Result<()> {
+    if items.is_empty() {
+        println!(rt; "caller {who} finds nothing")?;
+    }
+    for place in 0..items.len() {
+        println!(rt; "caller {who} has the frame at {}", items.desc(place).addr)?;
     }
     Ok(())
 }

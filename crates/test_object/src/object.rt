@@ -6,8 +6,8 @@ use crate::runs::behind;
 use std::alloc::Global;
 use xsk_log::{LineBuffer, Lines, Log};
 use xsk_model::{Call, Config};
-use xsk_plain::{Checked, Plain, payload_room};
-use xsk_umem::{Frames, OutOfMemory};
+use xsk_plain::{Checked, Plain, items_room};
+use xsk_umem::{Batch, Frames, OutOfMemory};
 
 /// An engine on one thread, on which the calls of a script are made.
 pub(crate) trait Engine: Maker {
@@ -35,21 +35,27 @@ pub(crate) struct Judge {
 }
 
 fn ask_checked(checked: &mut Checked, who: u32, call: Call) -> Result<Asked, OutOfMemory> {
+    let mut items = Batch::new();
+    let ask = call.split(&mut items);
     let _geometry = checked.config().geometry();
-    checked.reserve_log(1, payload_room(&call))?;
-    if !checked.allows(who, &call) {
-        return Ok(Asked::Refused(call, None));
+    checked.reserve_log(1, items_room(&items))?;
+    if !checked.allows(who, ask, &items) {
+        return Ok(Asked::Refused(ask.joined(items), None));
     }
-    Ok(Asked::Made(checked.perform(who, call)))
+    let answer = checked.serve(who, ask, &mut items);
+    Ok(Asked::Made(answer.joined(items)))
 }
 
 fn ask_why(checked: &mut Checked, who: u32, call: Call) -> Result<Asked, OutOfMemory> {
+    let mut items = Batch::new();
+    let ask = call.split(&mut items);
     let _geometry = checked.config().geometry();
-    checked.reserve_log(1, payload_room(&call))?;
-    match checked.why_not(who, &call) {
-        Some(why) => Ok(Asked::Refused(call, Some(why))),
-        None => Ok(Asked::Made(checked.perform(who, call))),
+    checked.reserve_log(1, items_room(&items))?;
+    if let Some(why) = checked.why_not(who, ask, &items) {
+        return Ok(Asked::Refused(ask.joined(items), Some(why)));
     }
+    let answer = checked.serve(who, ask, &mut items);
+    Ok(Asked::Made(answer.joined(items)))
 }
 
 impl Maker for Judge {
@@ -127,12 +133,15 @@ impl Engine for Plain {
     }
 
     fn ask(&mut self, who: u32, call: Call) -> Result<Asked, OutOfMemory> {
+        let mut items = Batch::new();
+        let ask = call.split(&mut items);
         let _geometry = Plain::config(self).geometry();
-        self.reserve_log(1, payload_room(&call))?;
-        if !self.can_perform(&call) {
-            return Ok(Asked::Refused(call, None));
+        self.reserve_log(1, items_room(&items))?;
+        if !self.can_perform(ask, &items) {
+            return Ok(Asked::Refused(ask.joined(items), None));
         }
-        Ok(Asked::Made(self.perform(who, call)))
+        let answer = self.serve(who, ask, &mut items);
+        Ok(Asked::Made(answer.joined(items)))
     }
 
     fn tell_last(&self, line: &mut LineBuffer) {

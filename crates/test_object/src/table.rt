@@ -1,5 +1,6 @@
 //! A table that threads share, with the passes of all its callers between their calls.
 ghost use Rattle.std.specs.Prelude.{◌≡◌, ◌+◌, ◌≤◌, IfOk, IfSome};
+ghost use Rattle.xsk_model.specs.Asks.{joined_call, HasAsked, HasAnswered};
 ghost use Rattle.xsk_model.specs.Config.{IsLawful, callers_of};
 ghost use Rattle.xsk_model.specs.Opening.{AreFrames};
 ghost use Rattle.xsk_rings.specs.Serving.{MayAsk, looks_of};
@@ -12,7 +13,7 @@ use crate::reply::Asked;
 use std::alloc::Global;
 use std::marker::{Brand, Model};
 use std::sync::ledger::{Blank, Ledger};
-use xsk_model::{Call, Config, Reply};
+use xsk_model::{Answer, Ask, Call, Config};
 use xsk_rings::{CheckedPass, RingCalls};
 use xsk_table::{Note, Passes, Shared, Steps};
 use xsk_umem::{Batch, Frames, OutOfMemory};
@@ -41,50 +42,53 @@ impl Model for Table {
 }
 
 /// The looks at the other side's count that a legal call takes.
-fn looks(shared: &Shared, pass: &CheckedPass, call: &Call) -> u32
-    requires may { MayAsk shared.now pass.now call.now }
-    ensures { result ≡ looks_of pass.now call.now }
+fn looks(shared: &Shared, pass: &CheckedPass, ask: Ask, items: &Batch) -> u32
+    requires may { MayAsk shared.now pass.now (joined_call ask items.now) }
+    ensures { result ≡ looks_of pass.now (joined_call ask items.now) }
 {
-    match call {
-        Call::Reserve(..) | Call::Peek(..) => u32::from(!pass.covers(shared, call)),
-        Call::Submit(..) | Call::Release(..) | Call::Swap(..) | Call::Look(_) => 0,
+    match ask {
+        Ask::Reserve(..) | Ask::Peek(..) => u32::from(!pass.covers(shared, ask)),
+        Ask::Submit(_) | Ask::Release(..) | Ask::Swap(..) | Ask::Look(_) => 0,
     }
 }
 
-/// The reply to a call, and the looks at the other side's count that it took.
+/// The answer to a call, and the looks at the other side's count that it took.
 fn counted<L: Ledger>(
     shared: &Shared,
     pass: &mut CheckedPass,
-    call: Call,
+    ask: Ask,
+    items: &mut Batch,
     steps: &mut Steps<L>,
-) -> (Reply, u32)
-    requires may { MayAsk shared.now pass.old call }
+) -> (Answer, u32)
+    requires may { MayAsk shared.now pass.old (joined_call ask items.old) }
+    requires items { HasAsked ask items.old }
     ensures rests { Rests shared.now pass.new }
     ensures caller { pass.new.who ≡ pass.old.who }
     ensures counted { steps.new ≡ steps.old + result.1 }
+    ensures items { HasAnswered result.0 items.new }
 {
-    let looks = looks(shared, pass, &call);
-    (pass.perform_counted(shared, call, steps), looks)
+    let looks = looks(shared, pass, ask, items);
+    (pass.serve_counted(shared, ask, items, steps), looks)
 }
 
 /// A Reserve or a Peek that looks at the other side's count, whatever is known of it. Any other call is made as ever.
 fn looking<L: Ledger>(
     shared: &Shared,
     pass: &mut CheckedPass,
-    call: Call,
+    ask: Ask,
+    items: &mut Batch,
     steps: &mut Steps<L>,
-) -> (Reply, u32)
-    requires may { MayAsk shared.now pass.old call }
+) -> (Answer, u32)
+    requires may { MayAsk shared.now pass.old (joined_call ask items.old) }
+    requires items { HasAsked ask items.old }
     ensures rests { Rests shared.now pass.new }
     ensures caller { pass.new.who ≡ pass.old.who }
     ensures counted { steps.new ≡ steps.old + result.1 }
+    ensures items { HasAnswered result.0 items.new }
 {
-    match call {
-        Call::Reserve(ring, count) => {
-            let answer = pass.reserve_anew(shared, ring, count, steps);
-            (answer.joined(Batch::new()), 1)
-        },
-        _ => counted(shared, pass, call, steps),
+    match ask {
+        Ask::Reserve(ring, count) => (pass.reserve_anew(shared, ring, count, steps), 1),
+        _ => counted(shared, pass, ask, items, steps),
     }
 }
 
@@ -102,16 +106,18 @@ fn asked<L: Ledger>(
     ensures rests { Rests shared.now pass.new }
     ensures caller { pass.new.who ≡ pass.old.who }
 {
-    if !pass.allows(shared, &call) {
-        return (Asked::Refused(call, None), 0);
+    let mut items = Batch::new();
+    let ask = call.split(&mut items);
+    if !pass.allows(shared, ask, &items) {
+        return (Asked::Refused(ask.joined(items), None), 0);
     }
     let mut steps = Steps::<L>::new(blank);
-    let (reply, looks) = if anew {
-        looking(shared, pass, call, &mut steps)
+    let (answer, looks) = if anew {
+        looking(shared, pass, ask, &mut items, &mut steps)
     } else {
-        counted(shared, pass, call, &mut steps)
+        counted(shared, pass, ask, &mut items, &mut steps)
     };
-    (Asked::Made(reply), looks)
+    (Asked::Made(answer.joined(items)), looks)
 }
 
 /// The same, with a counter that is opened for this call.

@@ -6,7 +6,7 @@ use std::thread;
 use xsk_model::{Call, Mark, Reply, Ring};
 use xsk_rings::{CheckedPass, RingCalls};
 use xsk_table::Shared;
-use xsk_umem::Item;
+use xsk_umem::{Batch, Item};
 
 /// How often a call is made again that found a ring full or empty.
 pub(crate) const PATIENCE: u64 = 10_000_000_000;
@@ -42,10 +42,13 @@ pub(crate) fn make(
     ensures rests { Rests shared.now pass.new }
     ensures caller { pass.new.who ≡ pass.old.who }
 {
-    if !pass.allows(shared, &call) {
+    let mut items = Batch::new();
+    let ask = call.split(&mut items);
+    if !pass.allows(shared, ask, &items) {
         return None;
     }
-    let reply = pass.perform(shared, call);
+    let answer = pass.serve(shared, ask, &mut items);
+    let reply = answer.joined(items);
     tally.count(&reply);
     Some(reply)
 }

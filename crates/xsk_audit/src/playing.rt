@@ -88,7 +88,7 @@ fn make(
     if !shelf.lend(checked.config().geometry(), told, items) {
         return Ok(false);
     }
-    if !checked.permits(who, ask, items) {
+    if !checked.allows(who, ask, items) {
         return Ok(false);
     }
     checked.reserve_log(1, items_room(items))?;

@@ -3,10 +3,8 @@ ghost use Rattle.std.specs.Prelude.{◌≡◌, ◌+◌, ◌<◌, ◌≤◌, ℕ,
 ghost use Rattle.xsk_umem.specs.Frame.{Frame as Body};
 ghost use Rattle.xsk_model.specs.Asks.{HasAsked, joined_call};
 ghost use Rattle.xsk_model.specs.Config.{IsLawful};
-ghost use Rattle.xsk_model.specs.Entry.{Entry, own};
-ghost use Rattle.xsk_model.specs.Legal.{IsLegal};
+ghost use Rattle.xsk_model.specs.Entry.{Entry};
 ghost use Rattle.xsk_model.specs.Opening.{AreFrames};
-ghost use Rattle.xsk_legal.specs.Why.{Fails};
 ghost use Rattle.xsk_audit.specs.Lines.{lines_of};
 ghost use Rattle.xsk_audit.specs.Playing.{IsPlaying};
 ghost use Rattle.xsk_audit.specs.Reading.{read_call};
@@ -20,9 +18,8 @@ use crate::reading::{Reading, read_line};
 use crate::reasons::{Before, Reason, push_reason};
 use crate::shelf::Shelf;
 use std::alloc::Global;
-use xsk_legal::Illegal;
 use xsk_log::LineBuffer;
-use xsk_model::{Ask, Call, Config};
+use xsk_model::{Ask, Config};
 use xsk_plain::{Checked, items_room};
 use xsk_umem::{Batch, Frames, OutOfMemory};
 
@@ -210,23 +207,11 @@ fn try_call(
     if !shelf.lend(checked.config().geometry(), told, &mut items) {
         return Ok(Some(Reason::Frames));
     }
-    if !checked.permits(who, ask, &items) {
-        let why = why_refused(checked, who, &ask.joined(items));
+    if let Some(why) = checked.why_not(who, ask, &items) {
         return Ok(Some(Reason::Call(why)));
     }
     checked.reserve_log(1, items_room(&items))?;
     let _answer = checked.serve(who, ask, &mut items);
     shelf.keep(&mut items);
     Ok(None)
-}
-
-/// The first condition that fails of a call that isn't legal.
-fn why_refused(checked: &Checked, who: u32, call: &Call) -> Illegal
-    requires { IsLegal checked.now.config (own who checked.now.log) who call.now → ⊥ }
-    ensures { Fails result checked.now.config (own who checked.now.log) who call.now }
-{
-    match checked.why_not(who, call) {
-        Some(why) => why,
-        None => unreachable!(),
-    }
 }

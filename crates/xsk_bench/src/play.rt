@@ -1,12 +1,11 @@
 //! The object with its drivers in their seats.
-ghost use Rattle.std.specs.Prelude.{◌≡◌, ◌<◌, ◌≤◌, ◌+◌, ℕ, List, ◌∷◌, [], IsTrue, ◌↔◌, Err, IfOk, IfSome, IsNone, vec_len};
+ghost use Rattle.std.specs.Prelude.{◌≡◌, ◌<◌, ◌≤◌, ◌+◌, ℕ, List, ◌∷◌, [], IsTrue, ◌↔◌, Err, IfOk, vec_len};
 ghost use Rattle.xsk_umem.specs.Frame.{Frame};
 ghost use Rattle.xsk_umem.specs.Geometry.{IsGeometry};
 ghost use Rattle.xsk_model.specs.Asks.{joined_call, HasAsked, HasAnswered};
 ghost use Rattle.xsk_model.specs.Entry.{Entry, own};
 ghost use Rattle.xsk_model.specs.Legal.{IsLegal};
 ghost use Rattle.xsk_model.specs.Rings.{caller_of};
-ghost use Rattle.xsk_legal.specs.Why.{Fails};
 ghost use Rattle.xsk_turns.specs.Workers.{Setting};
 ghost use Rattle.xsk_sim.specs.Rooms.{most_payload};
 ghost use Rattle.xsk_bench.specs.Played.{HasPlayed, IsGoing};
@@ -15,7 +14,6 @@ ghost use Rattle.xsk_bench.specs.Serving.{Serves, IsIllegal, TellsWhy};
 
 use crate::Unserved;
 use crate::seat::Seat;
-use std::mem;
 use xsk_legal::Illegal;
 use xsk_machine::Amount;
 use xsk_model::steering::applications;
@@ -66,7 +64,7 @@ impl Play<'_> {
             return Err(Unserved::Illegal(Illegal::NoCaller));
         }
         let who = config.pairs().len() as u32 + app;
-        if let Some(why) = why_not(&self.checked, who, ask, items) {
+        if let Some(why) = self.checked.why_not(who, ask, items) {
             return Err(Unserved::Illegal(why));
         }
         let Ok(()) = self.checked.reserve_log(1, items_room(items)) else {
@@ -130,33 +128,6 @@ impl Play<'_> {
     {
         self.seats[who as usize].step(&mut self.checked, who)
     }
-}
-
-/// Why a call with its items in a batch isn't legal, and `None` exactly where it is. The batch stays as it was.
-fn why_not(checked: &Checked, who: u32, ask: Ask, items: &mut Batch) -> Option<Illegal>
-    requires { HasAsked ask items.old }
-    ensures items { items.new ≡ items.old }
-    ensures legal { IsNone result ↔ IsLegal checked.now.config (own who checked.now.log) who (joined_call ask items.old) }
-    ensures why { IfSome result (λ why. Fails why checked.now.config (own who checked.now.log) who (joined_call ask items.old)) }
-{
-    if checked.permits(who, ask, items) {
-        return None;
-    }
-    why_refused(checked, who, ask, items)
-}
-
-/// The same of a call that isn't legal. Its batch is moved to and fro.
-#[inline(never)]
-fn why_refused(checked: &Checked, who: u32, ask: Ask, items: &mut Batch) -> Option<Illegal>
-    requires { HasAsked ask items.old }
-    ensures items { items.new ≡ items.old }
-    ensures legal { IsNone result ↔ IsLegal checked.now.config (own who checked.now.log) who (joined_call ask items.old) }
-    ensures why { IfSome result (λ why. Fails why checked.now.config (own who checked.now.log) who (joined_call ask items.old)) }
-{
-    let call = ask.joined(mem::replace(items, Batch::new()));
-    let why = checked.why_not(who, &call);
-    let _ask = call.split(items);
-    why
 }
 
 /// Whether the batch has items only where the call submits them.

@@ -23,3 +23,4 @@ pub mod Steps
 pub mod Submits
 pub mod Waiting
 pub mod Whys
+pub mod Ranges

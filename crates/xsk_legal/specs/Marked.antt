@@ -8,7 +8,7 @@ use Rattle.xsk_model.specs.Entry.{Told}
 use Rattle.xsk_model.specs.Swaps.{last_set, last_seen}
 use Rattle.xsk_model.specs.declared.call.Ring.TheVariants.{Rx}
 use Rattle.xsk_model.specs.declared.call.Mark.{Mark}
-use Rattle.xsk_model.specs.declared.call.Mark.TheVariants.{NeedFill, NeedTx, Kick, RxDone, Gone, TxDone, Cell, Closing, Acked, Bounced}
+use Rattle.xsk_model.specs.declared.call.Mark.TheVariants.{Cell, Closing, Acked, Bounced}
 use Rattle.xsk_legal.specs.declared.marked.Marked.{Marked}
 
 -- whether there is a number, and it is this one
@@ -23,30 +23,17 @@ is_port_of c (Some s) port = port_of c (Rx s) == port
 
 -- what a legal Swap leaves: a cell is only lowered, and a socket is only closed and acknowledged
 abbrev pub after_swap : Config → Marked → Mark → ℕ → Marked
-after_swap c marked (NeedFill d) value = marked
-after_swap c marked (NeedTx s) value = marked
-after_swap c marked (Kick d) value = marked
-after_swap c marked (RxDone d) value = marked
-after_swap c marked (Gone d) value = marked
-after_swap c marked (TxDone a) value = marked
 after_swap c marked (Cell port index) value =
     record marked { lowered = if is_port_of c c.closing port then slice_set marked.lowered index true else marked.lowered }
 after_swap c marked (Closing s) value = record marked { closed = true }
 after_swap c marked (Acked s) value = record marked { acked = true }
 after_swap c marked (Bounced d) value = record marked { bounced = value }
+after_swap c marked _ value = marked
 
 -- what a Look with its answer leaves
 abbrev pub after_look : Config → Marked → Mark → ℕ → Marked
-after_look c marked (NeedFill d) old = marked
-after_look c marked (NeedTx s) old = marked
-after_look c marked (Kick d) old = marked
-after_look c marked (RxDone d) old = marked
-after_look c marked (Gone d) old = marked
-after_look c marked (TxDone a) old = marked
-after_look c marked (Cell port index) old = marked
 after_look c marked (Closing s) old = record marked { seen = if is_number s c.closing then old == 1 else marked.seen }
-after_look c marked (Acked s) old = marked
-after_look c marked (Bounced d) old = marked
+after_look c marked _ old = marked
 
 -- it is what these calls and replies of the caller leave
 pub record IsMarked (c : Config) (who : ℕ) (marked : Marked) (mine : List Told) : Type 0 where

@@ -48,12 +48,7 @@ impl Marked {
             Mark::Closing(_) => self.closed = true,
             Mark::Acked(_) => self.acked = true,
             Mark::Bounced(_) => self.bounced = value,
-            Mark::NeedFill(_)
-            | Mark::NeedTx(_)
-            | Mark::Kick(_)
-            | Mark::RxDone(_)
-            | Mark::Gone(_)
-            | Mark::TxDone(_) => {}
+            _ => {}
         }
     }
 

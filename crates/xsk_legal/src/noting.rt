@@ -12,7 +12,7 @@ ghost use Rattle.xsk_legal.specs.Noting.{IsFor};
 ghost use Rattle.xsk_legal.specs.Standing.{StandsFor};
 
 use crate::Standing;
-use xsk_model::{Answer, Ask, Call, Config, Mark, Ring};
+use xsk_model::{Answer, Ask, Config, Ring};
 use xsk_umem::Batch;
 
 impl Standing {
@@ -54,36 +54,16 @@ impl Standing {
             Ask::Submit(_) => {}
             Ask::Release(_, _) => {}
             Ask::Swap(mark, value) => {
-                if let Answer::Old(old) = answer {
-                    self.got_swap(config, mark, value, old);
+                if let Answer::Old(_) = answer {
+                    self.swapped(config, mark, value);
                 }
             }
             Ask::Look(mark) => {
                 if let Answer::Old(old) = answer {
-                    self.got_look(config, mark, old);
+                    self.looked(config, mark, old);
                 }
             }
         }
-    }
-
-    /// Notes a Swap that was answered by a number.
-    fn got_swap(&mut self, config: &Config, mark: Mark, value: u64, old: u64)
-        requires { IsFor config.now self.old }
-        ensures caller { self.new.who ≡ self.old.who }
-        ensures stands { (mine : List Told) → StandsFor config.now self.old mine → IsLegal config.now mine self.old.who (Swap mark value)
-            → Fits config.now mine (Swap mark value) (Old old) → StandsFor config.now self.new (with_told mine (Swap mark value) (Old old)) }
-    {
-        self.marked(config, &Call::Swap(mark, value), old);
-    }
-
-    /// Notes a Look that was answered by a number.
-    fn got_look(&mut self, config: &Config, mark: Mark, old: u64)
-        requires { IsFor config.now self.old }
-        ensures caller { self.new.who ≡ self.old.who }
-        ensures stands { (mine : List Told) → StandsFor config.now self.old mine → IsLegal config.now mine self.old.who (Look mark)
-            → Fits config.now mine (Look mark) (Old old) → StandsFor config.now self.new (with_told mine (Look mark) (Old old)) }
-    {
-        self.marked(config, &Call::Look(mark), old);
     }
 
     /// Notes all items of a Submit.

@@ -7,6 +7,7 @@ ghost use Rattle.xsk_model.specs.declared.call.Mark.TheVariants.{Cell};
 ghost use Rattle.xsk_legal.specs.Marked.{is_number};
 ghost use Rattle.xsk_legal.specs.Roles.{IsPairAt};
 
+use xsk_model::marks::Range;
 use xsk_model::placement::{has_mark, has_ring};
 use xsk_model::steering::application_on;
 use xsk_model::{Config, Mark, PairInfo, Ring};
@@ -129,24 +130,24 @@ fn owns_cell(config: &Config, who: u32, port: u32, index: u32) -> bool
 }
 
 /// Whether the mark, which must exist, may have the number.
+#[tactic(auto, using(xsk_model::proofs::MarkParts::range_tells, crate::proofs::Ranges::cell_is))]
 pub(crate) fn may_be(config: &Config, mark: Mark, value: u64) -> bool
     requires { HasMark config.now mark }
     ensures { IsTrue result ↔ IsMarkNumber config.now mark value }
 {
-    match mark {
-        Mark::NeedFill(_)
-        | Mark::NeedTx(_)
-        | Mark::Kick(_)
-        | Mark::RxDone(_)
-        | Mark::Gone(_)
-        | Mark::TxDone(_)
-        | Mark::Closing(_)
-        | Mark::Acked(_) => value <= 1,
-        Mark::Cell(port, index) => {
-            value == config.cell(port, index) || value == 0 && holds(config, port, index)
-        }
-        Mark::Bounced(_) => true,
+    match mark.kind().columns().range {
+        Range::Flag => value <= 1,
+        Range::Cell => is_cell_number(config, mark.number(), mark.index(), value),
+        Range::Count => true,
     }
+}
+
+/// Whether the cell, which must exist, may have the number.
+fn is_cell_number(config: &Config, port: u32, index: u32, value: u64) -> bool
+    requires { HasMark config.now (Cell port index) }
+    ensures { IsTrue result ↔ IsMarkNumber config.now (Cell port index) value }
+{
+    value == config.cell(port, index) || value == 0 && holds(config, port, index)
 }
 
 /// Whether the cell, which must exist, holds the socket to close.

@@ -28,7 +28,7 @@ use crate::roles::{consumes, is_closing, may_be, owns, produces, seat_of};
 use std::alloc::Global;
 use std::marker::Model;
 use xsk_model::placement::{has_mark, has_ring, ring_place, ring_places};
-use xsk_model::{Ask, Call, Config, Mark, Ring};
+use xsk_model::{Ask, Config, Mark, Ring};
 use xsk_umem::{Batch, Geometry, Item, MOST_ITEMS, OutOfMemory, XDP_PKT_CONTD, XdpDesc};
 
 /// What is reserved and not yet filled of a ring, and what is peeked and not yet released.
@@ -79,29 +79,9 @@ impl Standing {
         })
     }
 
-    /// Whether the call is legal after the calls and replies that were noted. It is exact where each of them was legal.
-    pub fn allows(&self, config: &Config, call: &Call) -> bool
-        requires { IsFor config.now self.now }
-        ensures { (mine : List Told) → StandsFor config.now self.now mine → (IsTrue result ↔ IsLegal config.now mine self.now.who call.now) }
-    {
-        match call {
-            Call::Reserve(ring, n) => is_few(*n) && self.feeds(config, *ring),
-            Call::Submit(ring, items) => {
-                self.feeds(config, *ring) && self.may_submit(config, *ring, items)
-            }
-            Call::Peek(ring, n) => is_few(*n) && consumes(config, self.who, *ring),
-            Call::Release(ring, n) => {
-                is_few(*n)
-                    && consumes(config, self.who, *ring)
-                    && *n <= self.places[ring_place(config, *ring)].held
-            }
-            Call::Swap(mark, value) => self.may_set(config, *mark, *value),
-            Call::Look(mark) => has_mark(config, *mark),
-        }
-    }
-
-    /// Whether the call whose items stand in a batch beside it is legal, as `allows` has it. No batch is moved by it.
-    pub fn permits(&self, config: &Config, ask: Ask, items: &Batch) -> bool
+    /// Whether the call, whose items are in the batch, is legal after the calls and replies that were noted. It is exact
+    /// where each of them was legal.
+    pub fn allows(&self, config: &Config, ask: Ask, items: &Batch) -> bool
         requires { IsFor config.now self.now }
         ensures { (mine : List Told) → StandsFor config.now self.now mine → (IsTrue result ↔ IsLegal config.now mine self.now.who (joined_call ask items.now)) }
     {
@@ -199,24 +179,6 @@ impl Standing {
             → Fits config.now mine (Look mark) (Old old) → StandsFor config.now self.new (with_told mine (Look mark) (Old old)) }
     {
         self.marked.looked(config, mark, old);
-    }
-
-    /// Notes a Swap or a Look, which was answered by a number. Of another call it notes nothing.
-    pub fn marked(&mut self, config: &Config, call: &Call, old: u64)
-        requires { IsFor config.now self.old }
-        ensures kind { IsFor config.now self.new }
-        ensures caller { self.new.who ≡ self.old.who }
-        ensures stands { (mine : List Told) → StandsFor config.now self.old mine → IsLegal config.now mine self.old.who call.now
-            → Fits config.now mine call.now (Old old) → StandsFor config.now self.new (with_told mine call.now (Old old)) }
-    {
-        match call {
-            Call::Swap(mark, value) => self.swapped(config, *mark, *value),
-            Call::Look(mark) => self.looked(config, *mark, old),
-            Call::Reserve(_, _) => {}
-            Call::Submit(_, _) => {}
-            Call::Peek(_, _) => {}
-            Call::Release(_, _) => {}
-        }
     }
 
     /// The caller.

@@ -1,6 +1,7 @@
 //! Why a call isn't legal after the caller's own earlier calls and replies, and what a caller has.
 ghost use Rattle.std.specs.Prelude.{◌≡◌, ◌<◌, ◌≤◌, ◌↔◌, ℕ, List, IsTrue, MatchOption, length};
 ghost use Rattle.xsk_umem.specs.Limits.{most_items};
+ghost use Rattle.xsk_model.specs.Asks.{joined_call};
 ghost use Rattle.xsk_model.specs.Config.{HasRing};
 ghost use Rattle.xsk_model.specs.Entry.{Told};
 ghost use Rattle.xsk_model.specs.Legal.{IsLegal};
@@ -17,7 +18,7 @@ use crate::roles::{consumes, may_be, owns, produces};
 use crate::standing::{are_items, is_few};
 use thiserror::Error;
 use xsk_model::placement::{has_mark, has_ring, ring_place};
-use xsk_model::{Call, Config, Mark, Ring};
+use xsk_model::{Ask, Config, Mark, Ring};
 use xsk_umem::Batch;
 
 /// Why a call isn't legal: the first of its conditions that fails, in this order.
@@ -57,20 +58,20 @@ pub enum Illegal {
 }
 
 impl Standing {
-    /// Why the call isn't legal after the calls and replies that were noted, and `None` exactly where it is. It is exact where
-    /// each of them was legal.
-    pub fn why_not(&self, config: &Config, call: &Call) -> Option<Illegal>
+    /// Why the call, whose items are in the batch, isn't legal after the calls and replies that were noted, and `None`
+    /// exactly where it is. It is exact where each of them was legal.
+    pub fn why_not(&self, config: &Config, ask: Ask, items: &Batch) -> Option<Illegal>
         requires { IsFor config.now self.now }
         ensures { (mine : List Told) → StandsFor config.now self.now mine
-            → MatchOption result (IsLegal config.now mine self.now.who call.now) (λ why. Fails why config.now mine self.now.who call.now) }
+            → MatchOption result (IsLegal config.now mine self.now.who (joined_call ask items.now)) (λ why. Fails why config.now mine self.now.who (joined_call ask items.now)) }
     {
-        match call {
-            Call::Reserve(ring, n) => self.why_not_reserve(config, *ring, *n),
-            Call::Submit(ring, items) => self.why_not_submit(config, *ring, items),
-            Call::Peek(ring, n) => self.why_not_peek(config, *ring, *n),
-            Call::Release(ring, n) => self.why_not_release(config, *ring, *n),
-            Call::Swap(mark, value) => self.why_not_swap(config, *mark, *value),
-            Call::Look(mark) => self.why_not_look(config, *mark),
+        match ask {
+            Ask::Reserve(ring, n) => self.why_not_reserve(config, ring, n),
+            Ask::Submit(ring) => self.why_not_submit(config, ring, items),
+            Ask::Peek(ring, n) => self.why_not_peek(config, ring, n),
+            Ask::Release(ring, n) => self.why_not_release(config, ring, n),
+            Ask::Swap(mark, value) => self.why_not_swap(config, mark, value),
+            Ask::Look(mark) => self.why_not_look(config, mark),
         }
     }
 

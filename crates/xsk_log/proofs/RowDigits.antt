@@ -1,23 +1,25 @@
 -- What the digits of small rows are.
-use Rattle.std.proofs.Common.{◌≡◌, ℕ, zero, suc, ◌/◌, ◌%◌, ◌<◌, ◌⊎◌, inl, inr, ◌==◌, Bool, true, false, if◌then◌else◌, Some, refl, subst, arith}
+use Rattle.std.proofs.Common.{◌≡◌, ℕ, zero, suc, ◌+◌, ◌-◌, ◌*◌, ◌/◌, ◌%◌, ◌<◌, inl, inr, ◌==◌, Bool, true, false, if◌then◌else◌, refl, subst, arith}
+use Rattle.std.proofs.lemmas.Bool.{cases_lt, lt-ltb, le-ltb}
+use Rattle.xsk_model.specs.MarkKinds.{number_of, index_of, mark_of, kind_at}
+use Rattle.xsk_model.specs.declared.marks.MarkKind.{MarkKind}
+use Rattle.xsk_model.specs.declared.marks.MarkKind.TheVariants as kinds
 use Rattle.xsk_model.specs.declared.call.Ring.{Ring}
 use Rattle.xsk_model.specs.declared.call.Ring.TheVariants.{Fill, Comp, Rx, Tx}
-use Rattle.xsk_model.specs.declared.call.Mark.{Mark}
-use Rattle.xsk_model.specs.declared.call.Mark.TheVariants.{Cell}
 use Rattle.xsk_log.specs.declared.log.Row.{Row}
 use Rattle.xsk_log.specs.declared.log.Event.{Event}
 use Rattle.xsk_log.specs.declared.log.Event.TheVariants.{Granted, Full, Submitted, Items, Empty, Released, Swapped, Looked}
-use Rattle.xsk_log.specs.RowCodes.{ring_at, ring_place, mark_at, mark_place, event_at, items_at, IsSmall}
+use Rattle.xsk_log.specs.RowCodes.{ring_at, ring_place, ring_event, event_at, items_with, look_number, IsSmall}
 
--- a mark whose place is below 64, and has no other number
-abbrev pub IsPlaced : Mark → Type 0
-IsPlaced mark = (place : ℕ) × (place < 64) × (mark_place mark ≡ Some place)
+-- the event of a kind and a ring, by the digits of its number
+pub ring_event-at : (kind side place first second : ℕ) → kind < 6 → side < 4 → event_at (kind * 4 + side) place first second ≡ ring_event kind (ring_at side place) first second
+ring_event-at kind side place first second known below =
+    let within : kind * 4 + side < 24 = omega (arith, known, below) in
+    let which : (kind * 4 + side) / 4 ≡ kind = omega (arith, below) in
+    let of : (kind * 4 + side) % 4 ≡ side = omega (arith, below) in
+    rw (lt-ltb (kind * 4 + side) 24 within, which, of) refl
 
--- a cell whose port is below 64, and its index is this
-abbrev pub IsCell : ℕ → Mark → Type 0
-IsCell index mark = (port : ℕ) × (port < 64) × (mark ≡ Cell port index)
-
--- all numbers are below 64, and there are no items where three numbers are told
+-- all numbers are below 64, and there are no items where the second number is another
 abbrev pub IsLittle : Event → ℕ → Type 0
 IsLittle (Granted ring count) items = (ring_place ring < 64) × (count < 64) × (items < 64)
 IsLittle (Submitted ring) items = (ring_place ring < 64) × (items < 64)
@@ -25,8 +27,8 @@ IsLittle (Items ring count) items = (ring_place ring < 64) × (count < 64) × (i
 IsLittle (Empty ring count) items = (ring_place ring < 64) × (count < 64) × (items < 64)
 IsLittle (Released ring count) items = (ring_place ring < 64) × (count < 64) × (items < 64)
 IsLittle (Full ring count free) items = (ring_place ring < 64) × (count < 64) × (free < 64) × (items ≡ 0)
-IsLittle (Swapped mark value old) items = (IsPlaced mark ⊎ IsCell 0 mark) × (value < 64) × (old < 64) × (items ≡ 0)
-IsLittle (Looked mark old) items = ((IsPlaced mark × (items < 64)) ⊎ ((index : ℕ) × IsCell index mark × (index < 64) × (items ≡ 0))) × (old < 64)
+IsLittle (Swapped mark value old) items = (number_of mark < 64) × (index_of mark ≡ 0) × (value < 64) × (old < 64) × (items ≡ 0)
+IsLittle (Looked mark old) items = (number_of mark < 64) × (old < 64) × (look_number mark items < 64) × (items_with (Looked mark old) (look_number mark items) ≡ items)
 
 either : (b : Bool) (x y : Ring) → ring_place x < 64 → ring_place y < 64 → ring_place (if b then x else y) < 64
 either true x y one other = one
@@ -38,69 +40,59 @@ ring_below side place below =
     (either (side == 1) (Comp place) _ below
     (either (side == 2) (Rx place) (Tx place) below below))
 
-mark_below : (side place index : ℕ) → side < 8 → place < 64 → IsPlaced (mark_at side place index) ⊎ IsCell index (mark_at side place index)
-mark_below zero place index known below = inl (place, below, refl)
-mark_below (suc zero) place index known below = inl (place, below, refl)
-mark_below (suc (suc zero)) place index known below = inl (place, below, refl)
-mark_below (suc (suc (suc zero))) place index known below = inl (place, below, refl)
-mark_below (suc (suc (suc (suc zero)))) place index known below = inl (place, below, refl)
-mark_below (suc (suc (suc (suc (suc zero))))) place index known below = inl (place, below, refl)
-mark_below (suc (suc (suc (suc (suc (suc zero)))))) place index known below = inr (place, below, refl)
-mark_below (suc (suc (suc (suc (suc (suc (suc zero))))))) place index known below = inl (place, below, refl)
-mark_below (suc (suc (suc (suc (suc (suc (suc (suc n)))))))) place index known below = absurd (omega (arith, known))
+call_below : (kind : ℕ) (ring : Ring) (first second : ℕ) → kind < 6 → ring_place ring < 64 → first < 64 → second < 64
+    → IsLittle (ring_event kind ring first second) (items_with (ring_event kind ring first second) second)
+call_below zero ring first second known placed one two = (placed, one, two)
+call_below (suc zero) ring first second known placed one two = (placed, two)
+call_below (suc (suc zero)) ring first second known placed one two = (placed, one, two)
+call_below (suc (suc (suc zero))) ring first second known placed one two = (placed, one, two)
+call_below (suc (suc (suc (suc zero)))) ring first second known placed one two = (placed, one, two)
+call_below (suc (suc (suc (suc (suc zero))))) ring first second known placed one two = (placed, one, two, refl)
+call_below (suc (suc (suc (suc (suc (suc n)))))) ring first second known placed one two = absurd (omega (arith, known))
 
-look_below : (side place second : ℕ) → side < 8 → place < 64 → second < 64
-    → (IsPlaced (mark_at side place second) × (items_at 7 side second < 64)) ⊎ ((index : ℕ) × IsCell index (mark_at side place second) × (index < 64) × (items_at 7 side second ≡ 0))
-look_below zero place second known below less = inl ((place, below, refl), less)
-look_below (suc zero) place second known below less = inl ((place, below, refl), less)
-look_below (suc (suc zero)) place second known below less = inl ((place, below, refl), less)
-look_below (suc (suc (suc zero))) place second known below less = inl ((place, below, refl), less)
-look_below (suc (suc (suc (suc zero)))) place second known below less = inl ((place, below, refl), less)
-look_below (suc (suc (suc (suc (suc zero))))) place second known below less = inl ((place, below, refl), less)
-look_below (suc (suc (suc (suc (suc (suc zero)))))) place second known below less = inr (second, (place, below, refl), less, refl)
-look_below (suc (suc (suc (suc (suc (suc (suc zero))))))) place second known below less = inl ((place, below, refl), less)
-look_below (suc (suc (suc (suc (suc (suc (suc (suc n)))))))) place second known below less = absurd (omega (arith, known))
+swap_below : (kind : MarkKind) (place first second : ℕ) → place < 64 → first < 64 → second < 64 → IsLittle (Swapped (mark_of kind place 0) first second) 0
+swap_below kinds.NeedFill place first second placed one two = (placed, refl, one, two, refl)
+swap_below kinds.NeedTx place first second placed one two = (placed, refl, one, two, refl)
+swap_below kinds.Kick place first second placed one two = (placed, refl, one, two, refl)
+swap_below kinds.RxDone place first second placed one two = (placed, refl, one, two, refl)
+swap_below kinds.Gone place first second placed one two = (placed, refl, one, two, refl)
+swap_below kinds.TxDone place first second placed one two = (placed, refl, one, two, refl)
+swap_below kinds.Cell place first second placed one two = (placed, refl, one, two, refl)
+swap_below kinds.Closing place first second placed one two = (placed, refl, one, two, refl)
+swap_below kinds.Acked place first second placed one two = (placed, refl, one, two, refl)
+swap_below kinds.Bounced place first second placed one two = (placed, refl, one, two, refl)
 
-event_below : (kind side place first second : ℕ) → kind < 8 → side < 8 → place < 64 → first < 64 → second < 64 → IsLittle (event_at kind side place first second) (items_at kind side second)
-event_below zero side place first second known sided placed one two = (ring_below side place placed, one, two)
-event_below (suc zero) side place first second known sided placed one two = (ring_below side place placed, two)
-event_below (suc (suc zero)) side place first second known sided placed one two = (ring_below side place placed, one, two)
-event_below (suc (suc (suc zero))) side place first second known sided placed one two = (ring_below side place placed, one, two)
-event_below (suc (suc (suc (suc zero)))) side place first second known sided placed one two = (ring_below side place placed, one, two)
-event_below (suc (suc (suc (suc (suc zero))))) side place first second known sided placed one two = (ring_below side place placed, one, two, refl)
-event_below (suc (suc (suc (suc (suc (suc zero)))))) side place first second known sided placed one two = (mark_below side place 0 sided placed, one, two, refl)
-event_below (suc (suc (suc (suc (suc (suc (suc zero))))))) side place first second known sided placed one two = (look_below side place second sided placed two, one)
-event_below (suc (suc (suc (suc (suc (suc (suc (suc n)))))))) side place first second known sided placed one two = absurd (omega (arith, known))
+look_below : (kind : MarkKind) (place first second : ℕ) → place < 64 → first < 64 → second < 64
+    → IsLittle (Looked (mark_of kind place second) first) (items_with (Looked (mark_of kind place second) first) second)
+look_below kinds.NeedFill place first second placed one two = (placed, one, two, refl)
+look_below kinds.NeedTx place first second placed one two = (placed, one, two, refl)
+look_below kinds.Kick place first second placed one two = (placed, one, two, refl)
+look_below kinds.RxDone place first second placed one two = (placed, one, two, refl)
+look_below kinds.Gone place first second placed one two = (placed, one, two, refl)
+look_below kinds.TxDone place first second placed one two = (placed, one, two, refl)
+look_below kinds.Cell place first second placed one two = (placed, one, two, refl)
+look_below kinds.Closing place first second placed one two = (placed, one, two, refl)
+look_below kinds.Acked place first second placed one two = (placed, one, two, refl)
+look_below kinds.Bounced place first second placed one two = (placed, one, two, refl)
+
+event_below : (event place first second : ℕ) → place < 64 → first < 64 → second < 64
+    → IsLittle (event_at event place first second) (items_with (event_at event place first second) second)
+event_below event place first second placed one two = elim (cases_lt event 24) [
+  | inl ring ↦ rw (lt-ltb event 24 ring) (call_below (event / 4) (ring_at (event % 4) place) first second (omega (arith, ring)) (ring_below (event % 4) place placed) one two)
+  | inr mark ↦ rw (le-ltb event 24 mark) (elim (cases_lt event 34) [
+    | inl swap ↦ rw (lt-ltb event 34 swap) (swap_below (kind_at (event - 24)) place first second placed one two)
+    | inr look ↦ rw (le-ltb event 34 look) (look_below (kind_at (event - 34)) place first second placed one two)
+  ])
+]
 
 pub small_below : (row : Row) → IsSmall row → (row.who < 128) × IsLittle row.event row.items
 small_below row small =
     let code = small.0 in
-    let side = code / 64 / 64 / 64 / 128 % 8 in
-    let kind = code / 64 / 64 / 64 / 128 / 8 in
-    let little : IsLittle (event_at kind side (code / 64 / 64 % 64) (code / 64 % 64) (code % 64)) (items_at kind side (code % 64)) =
-    event_below kind side (code / 64 / 64 % 64) (code / 64 % 64) (code % 64) (omega (arith, small.1)) (omega arith) (omega arith) (omega arith) (omega arith) in
+    let event = event_at (code / 64 / 64 / 64 / 128) (code / 64 / 64 % 64) (code / 64 % 64) (code % 64) in
+    let little : IsLittle event (items_with event (code % 64)) =
+    event_below (code / 64 / 64 / 64 / 128) (code / 64 / 64 % 64) (code / 64 % 64) (code % 64) (omega arith) (omega arith) (omega arith) in
     (subst (λ (r : Row). r.who < 128) small.2 (omega arith), subst (λ (r : Row). IsLittle r.event r.items) small.2 little)
 
 -- what is small of a row by its event
 pub little_as : (row : Row) (event : Event) → row.event ≡ event → IsSmall row → IsLittle event row.items
 little_as row event is small = subst (λ e. IsLittle e row.items) is (small_below row small).1
-
-pub swap_below : (mark : Mark) (value old items place first second : ℕ) → IsLittle (Swapped mark value old) items → first ≡ value
-    → ((p : ℕ) → mark_place mark ≡ Some p → items ≡ 0 → (place ≡ p) × (second ≡ old))
-    → ((port : ℕ) → mark ≡ Cell port 0 → items ≡ 0 → (place ≡ port) × (second ≡ old))
-    → (place < 64) × (first < 64) × (second < 64)
-swap_below mark value old items place first second ((placed, one, two, none)) is other cell = pick placed
-  where
-    pick : IsPlaced mark ⊎ IsCell 0 mark → (place < 64) × (first < 64) × (second < 64)
-    pick (inl (p, below, at)) = let e = other p at none in (omega (arith, below, e.0), omega (arith, is, one), omega (arith, two, e.1))
-    pick (inr (port, below, at)) = let e = cell port at none in (omega (arith, below, e.0), omega (arith, is, one), omega (arith, two, e.1))
-
-pub look_within : (mark : Mark) (old items place first second : ℕ) → IsLittle (Looked mark old) items → first ≡ old
-    → ((p : ℕ) → mark_place mark ≡ Some p → (place ≡ p) × (second ≡ items))
-    → ((port index : ℕ) → mark ≡ Cell port index → items ≡ 0 → (place ≡ port) × (second ≡ index))
-    → (place < 64) × (first < 64) × (second < 64)
-look_within mark old items place first second ((placed, one)) is other cell = pick placed
-  where
-    pick : (IsPlaced mark × (items < 64)) ⊎ ((index : ℕ) × IsCell index mark × (index < 64) × (items ≡ 0)) → (place < 64) × (first < 64) × (second < 64)
-    pick (inl ((p, below, at), less)) = let e = other p at in (omega (arith, below, e.0), omega (arith, is, one), omega (arith, less, e.1))
-    pick (inr (index, (port, below, at), less, none)) = let e = cell port index at none in (omega (arith, below, e.0), omega (arith, is, one), omega (arith, less, e.1))

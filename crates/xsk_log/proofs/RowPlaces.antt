@@ -1,9 +1,13 @@
 -- The rows that numbers tell, as further rows come to stand apart.
 use Rattle.std.proofs.Common.{◌≡◌, ℕ, ◌+◌, ◌-◌, ◌^◌, ◌<◌, ◌≤◌, nat_lt, if◌then◌else◌, Bool, true, false, List, [], ◌∷◌, ◌++◌, length, refl, sym, ap, ◌∙◌, arith, length-append}
+use Rattle.std.specs.Prelude.{Some, slice_get}
 use Rattle.std.specs.List.{slice_index_or}
+use Rattle.std.specs.Option.{option_map}
 use Rattle.std.proofs.lemmas.Bool.{lt-ltb, le-ltb, ltb-true, ltb-false}
-use Rattle.std.proofs.lemmas.List.{map-append, get_or_append_left}
-use Rattle.std.proofs.lemmas.List.Elements.{All-head, All-tail, All-push, All-same}
+use Rattle.std.proofs.lemmas.List.{map-append, length-map, get_or_append_left}
+use Rattle.std.proofs.lemmas.Option.{slice_get-map, slice_get_read, get_or_from_slice_get}
+use Rattle.std.proofs.lemmas.List.Elements.{All-head, All-tail, All-push, All-same, All-get_or}
+use Rattle.std.proofs.Math.ListN.{get_or}
 use Rattle.std.proofs.Math.Seq.{get_or-append_seam}
 use Rattle.xsk_log.specs.declared.log.Row.{Row}
 use Rattle.xsk_log.specs.Repeats.{AreBelow, KeepsValues}
@@ -17,6 +21,27 @@ small_at apart code below =
 apart_at : (apart : List Row) (code : ℕ) → 2 ^ 31 ≤ code → row_at apart code ≡ slice_index_or apart (code - 2 ^ 31) (small_row code)
 apart_at apart code above =
     ap (λ b. if b then small_row code else slice_index_or apart (code - 2 ^ 31) (small_row code)) (le-ltb code (2 ^ 31) above)
+
+-- the row of a number, in the list of all: where it is small, and where it stands apart
+within_codes : (apart : List Row) (codes : List ℕ) (rows : List Row) (i : ℕ) → rows_at apart codes ≡ rows → i < length rows → i < length codes
+within_codes apart codes rows i are within = omega (arith, within, ap length are, length-map codes (row_at apart))
+
+row_here : (apart : List Row) (codes : List ℕ) (rows : List Row) (i code : ℕ) (row : Row) → rows_at apart codes ≡ rows → i < length rows → code ≡ get_or codes i code
+    → row_at apart code ≡ row → slice_get rows i ≡ Some row
+row_here apart codes rows i code row are within here is =
+    ap (λ l. slice_get l i) (sym are) ∙ slice_get-map (row_at apart) codes i
+    ∙ ap (option_map (row_at apart)) (slice_get_read codes (length codes) i code refl (within_codes apart codes rows i are within) here) ∙ ap (λ (r : Row). Some r) is
+
+pub small_here : (apart : List Row) (codes : List ℕ) (rows : List Row) (i code : ℕ) (row : Row) → rows_at apart codes ≡ rows → i < length rows → code ≡ get_or codes i code
+    → code < 2 ^ 31 → row ≡ small_row code → slice_get rows i ≡ Some row
+small_here apart codes rows i code row are within here below is = row_here apart codes rows i code row are within here (small_at apart code below ∙ sym is)
+
+pub apart_here : (apart : List Row) (codes : List ℕ) (rows : List Row) (i code : ℕ) (row : Row) → rows_at apart codes ≡ rows → i < length rows → code ≡ get_or codes i code
+    → AreBelow (2 ^ 31 + length apart) codes → 2 ^ 31 ≤ code → row ≡ get_or apart (code - 2 ^ 31) row → slice_get rows i ≡ Some row
+apart_here apart codes rows i code row are within here known above is =
+    let below = All-get_or (λ (p : ℕ). p < 2 ^ 31 + length apart) codes i code (within_codes apart codes rows i are within) known in
+    let stands = slice_get_read apart (length apart) (code - 2 ^ 31) row refl (omega (arith, below, here, above)) is in
+    row_here apart codes rows i code row are within here (apart_at apart code above ∙ get_or_from_slice_get apart (code - 2 ^ 31) row (small_row code) stands)
 
 -- a row stays when others come to stand behind those apart
 row-more : (apart more : List Row) (code : ℕ) → code < 2 ^ 31 + length apart → row_at (apart ++ more) code ≡ row_at apart code

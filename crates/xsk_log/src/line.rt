@@ -108,20 +108,9 @@ fn push_mark(line: &mut ArrayString<2048>, mark: Mark)
     ensures text { line.new.bytes ≡ line.old.bytes ++ mark_text mark }
     ensures room { array_string_len line.new ≤ array_string_len line.old + 40 }
 {
-    match mark {
-        Mark::NeedFill(pair) => push_named(line, "need.fill.", pair),
-        Mark::NeedTx(socket) => push_named(line, "need.tx.", socket),
-        Mark::Kick(pair) => push_named(line, "kick.", pair),
-        Mark::RxDone(pair) => push_named(line, "rxdone.", pair),
-        Mark::Gone(pair) => push_named(line, "gone.", pair),
-        Mark::TxDone(app) => push_named(line, "txdone.", app),
-        Mark::Cell(port, index) => {
-            push_named(line, "cell.", port);
-            push_named(line, ".", index);
-        }
-        Mark::Closing(socket) => push_named(line, "closing.", socket),
-        Mark::Acked(socket) => push_named(line, "acked.", socket),
-        Mark::Bounced(pair) => push_named(line, "bounced.", pair),
+    push_named(line, mark.kind().word(), mark.number());
+    if let Mark::Cell(_, index) = mark {
+        push_named(line, ".", index);
     }
 }
 

@@ -1,13 +1,15 @@
 //! The rows of the log. One whose numbers are small is a number itself, and any other one stands apart.
 ghost use Rattle.std.specs.Prelude.{◌≡◌, ◌≢◌, ℕ, ◌+◌, ◌<◌, ◌≤◌, ◌^◌, [], ◌∷◌, ◌++◌, Some, length, slice_get, vec_len, vec_capacity, IfSome, IsSome, OnOk};
-ghost use Rattle.xsk_model.specs.declared.call.Mark.TheVariants.{Cell};
-ghost use Rattle.xsk_log.specs.RowCodes.{ring_at, mark_at, items_at, event_at, row_with, row_at, ring_place, mark_place, small_row, IsSmall};
+ghost use Rattle.xsk_model.specs.MarkKinds.{number_of, index_of};
+ghost use Rattle.xsk_log.specs.declared.log.Event.TheVariants.{Swapped, Looked};
+ghost use Rattle.xsk_log.specs.RowCodes.{ring_at, ring_place, ring_event, event_at, items_with, look_number, row_with, row_at, small_row, IsSmall};
 ghost use Rattle.xsk_log.specs.Repeats.{KeepsValues};
 
 use crate::log::{Event, Row};
 use std::alloc::Global;
 use std::marker::Model;
-use xsk_model::{Mark, Ring};
+use xsk_model::marks::MARK_KINDS;
+use xsk_model::{Mark, MarkKind, Ring};
 use xsk_umem::OutOfMemory;
 
 /// The number of the first row that stands apart. Those below are small rows.
@@ -15,6 +17,12 @@ const APART: u32 = 1 << 31;
 
 /// A number that is too large for a small row.
 const LARGE: u64 = 64;
+
+/// The number of the first swap. The 6 kinds of calls on the 4 kinds of rings stand before it.
+const SWAPS: u32 = 24;
+
+/// The number of the first look, behind a swap of each kind of mark.
+const LOOKS: u32 = SWAPS + MARK_KINDS;
 
 /// Rows in order. The rows for which room is reserved are a number of its own.
 #[derive(Debug, Drop)]
@@ -141,11 +149,10 @@ fn set_apart(apart: &mut Vec<Row>, row: &Row) -> u32
     APART + place
 }
 
-/// A row's kind, its ring or mark, and its numbers.
+/// Which event a row has, on which kind of ring or mark, and its numbers.
 #[derive(Clone, Copy)]
 struct Digits {
-    kind: u32,
-    side: u32,
+    event: u32,
     place: u32,
     first: u64,
     second: u64,
@@ -161,15 +168,14 @@ fn code_of(row: &Row) -> Option<u32>
     if row.who >= 128 || digits.place >= 64 || digits.first >= LARGE || digits.second >= LARGE {
         return None;
     }
-    let seat = (digits.kind * 8 + digits.side) * 128 + row.who;
+    let seat = digits.event * 128 + row.who;
     Some(((seat * 64 + digits.place) * 64 + digits.first as u32) * 64 + digits.second as u32)
 }
 
 #[inline(always)]
 fn digits_of(row: &Row) -> Digits
-    ensures kind { result.kind < 8 }
-    ensures side { result.side < 8 }
-    ensures row { result.second < 64 → row_with row.now.who result.kind result.side result.place result.first result.second ≡ row.now }
+    ensures event { result.event < 64 }
+    ensures row { result.second < 64 → row_with row.now.who result.event result.place result.first result.second ≡ row.now }
     ensures small { IsSmall row.now → (result.place < 64) × (result.first < 64) × (result.second < 64) }
 {
     let items = u64::from(row.items);
@@ -197,10 +203,11 @@ fn unless_items(items: u32, number: u64) -> u64
     if items == 0 { number } else { LARGE }
 }
 
+/// Those of one of the six kinds of calls on a ring.
 fn of_ring(kind: u32, ring: Ring, first: u32, second: u64) -> Digits
-    ensures kind { result.kind ≡ kind }
-    ensures side { result.side < 4 }
-    ensures ring { ring_at result.side result.place ≡ ring }
+    requires { kind < 6 }
+    ensures within { result.event < 24 }
+    ensures event { event_at result.event result.place result.first result.second ≡ ring_event kind ring first second }
     ensures place { result.place ≡ ring_place ring }
     ensures numbers { (result.first ≡ first) × (result.second ≡ second) }
 {
@@ -211,89 +218,49 @@ fn of_ring(kind: u32, ring: Ring, first: u32, second: u64) -> Digits
         Ring::Tx(socket) => (3, socket),
     };
     Digits {
-        kind,
-        side,
+        event: kind * 4 + side,
         place,
         first: u64::from(first),
         second,
     }
 }
 
-/// Those of a mark that isn't a cell, Acked or Bounced. For these the second number is large.
-fn of_mark(kind: u32, mark: Mark, first: u64, second: u64) -> Digits
-    ensures kind { result.kind ≡ kind }
-    ensures side { (result.side < 8) × (result.side ≢ 6) }
-    ensures first { result.first ≡ first }
-    ensures second { result.second < 64 → ((index : ℕ) → mark_at result.side result.place index ≡ mark) × (result.second ≡ second) }
-    ensures place { (place : ℕ) → mark_place mark ≡ Some place → (result.place ≡ place) × (result.second ≡ second) }
+/// Those of a swap. Of a cell only the first of a port is small.
+fn of_swap(mark: Mark, value: u64, old: u64, items: u32) -> Digits
+    ensures within { result.event < 64 }
+    ensures event { result.second < 64 → (event_at result.event result.place result.first result.second ≡ Swapped mark value old) × (items ≡ 0) }
+    ensures numbers { (result.place ≡ number_of mark) × (result.first ≡ value) }
+    ensures second { index_of mark ≡ 0 → items ≡ 0 → result.second ≡ old }
 {
-    let (side, place) = match mark {
-        Mark::NeedFill(pair) => (0, pair),
-        Mark::NeedTx(socket) => (1, socket),
-        Mark::Kick(pair) => (2, pair),
-        Mark::RxDone(pair) => (3, pair),
-        Mark::Gone(pair) => (4, pair),
-        Mark::TxDone(app) => (5, app),
-        Mark::Closing(socket) => (7, socket),
-        Mark::Cell(_, _) | Mark::Acked(_) | Mark::Bounced(_) => {
-            return Digits {
-                kind,
-                side: 0,
-                place: 0,
-                first,
-                second: LARGE,
-            };
-        }
+    let second = if mark.index() == 0 {
+        unless_items(items, old)
+    } else {
+        LARGE
     };
     Digits {
-        kind,
-        side,
-        place,
-        first,
+        event: SWAPS + mark.kind().row(),
+        place: mark.number(),
+        first: value,
         second,
     }
 }
 
-/// Those of a swap. Of a cell only the first of a port is small.
-fn of_swap(mark: Mark, value: u64, old: u64, items: u32) -> Digits
-    ensures kind { result.kind ≡ 6 }
-    ensures side { result.side < 8 }
-    ensures first { result.first ≡ value }
-    ensures second { result.second < 64 → (mark_at result.side result.place 0 ≡ mark) × (result.second ≡ old) × (items ≡ 0) }
-    ensures place { (place : ℕ) → mark_place mark ≡ Some place → items ≡ 0 → (result.place ≡ place) × (result.second ≡ old) }
-    ensures cell { (port : ℕ) → mark ≡ Cell port 0 → items ≡ 0 → (result.place ≡ port) × (result.second ≡ old) }
-{
-    let second = unless_items(items, old);
-    match mark {
-        Mark::Cell(port, 0) => Digits {
-            kind: 6,
-            side: 6,
-            place: port,
-            first: value,
-            second,
-        },
-        _ => of_mark(6, mark, value, second),
-    }
-}
-
+/// Those of a look. The second number is that of the items, but of a cell, which has none then, its index.
 fn of_look(mark: Mark, old: u64, items: u32) -> Digits
-    ensures kind { result.kind ≡ 7 }
-    ensures side { result.side < 8 }
-    ensures first { result.first ≡ old }
-    ensures mark { result.second < 64 → mark_at result.side result.place result.second ≡ mark }
-    ensures items { result.second < 64 → items_at 7 result.side result.second ≡ items }
-    ensures place { (place : ℕ) → mark_place mark ≡ Some place → (result.place ≡ place) × (result.second ≡ items) }
-    ensures cell { (port index : ℕ) → mark ≡ Cell port index → items ≡ 0 → (result.place ≡ port) × (result.second ≡ index) }
+    ensures within { result.event < 64 }
+    ensures event { result.second < 64 → (event_at result.event result.place result.first result.second ≡ Looked mark old) × (items_with (Looked mark old) result.second ≡ items) }
+    ensures numbers { (result.place ≡ number_of mark) × (result.first ≡ old) }
+    ensures second { items_with (Looked mark old) (look_number mark items) ≡ items → result.second ≡ look_number mark items }
 {
-    match mark {
-        Mark::Cell(port, index) => Digits {
-            kind: 7,
-            side: 6,
-            place: port,
-            first: old,
-            second: unless_items(items, u64::from(index)),
-        },
-        _ => of_mark(7, mark, old, u64::from(items)),
+    let second = match mark {
+        Mark::Cell(_, index) => unless_items(items, u64::from(index)),
+        _ => u64::from(items),
+    };
+    Digits {
+        event: LOOKS + mark.kind().row(),
+        place: mark.number(),
+        first: old,
+        second,
     }
 }
 
@@ -304,28 +271,49 @@ fn small_row_of(code: u32) -> Row
     let (code, second) = (code / 64, code % 64);
     let (code, first) = (code / 64, code % 64);
     let (code, place) = (code / 64, code % 64);
-    let (code, who) = (code / 128, code % 128);
-    let (kind, side) = (code / 8, code % 8);
-    let without = kind == 5 || kind == 6 || (kind == 7 && side == 6);
+    let (event, who) = (code / 128, code % 128);
+    let event = event_of(event, place, first, second);
     Row {
         who,
-        event: event_of(kind, side, place, first, second),
-        items: if without { 0 } else { second },
+        event,
+        items: items_of(event, second),
     }
 }
 
-fn event_of(kind: u32, side: u32, place: u32, first: u32, second: u32) -> Event
-    ensures { result ≡ event_at kind side place first second }
+/// The items of a small row: none where its event tells two numbers.
+fn items_of(event: Event, second: u32) -> u32
+    ensures { result ≡ items_with event second }
+{
+    match event {
+        Event::Full(..) | Event::Swapped(..) | Event::Looked(Mark::Cell(..), _) => 0,
+        _ => second,
+    }
+}
+
+fn event_of(event: u32, place: u32, first: u32, second: u32) -> Event
+    ensures { result ≡ event_at event place first second }
+{
+    if event < SWAPS {
+        return ring_event_of(event / 4, ring_of(event % 4, place), first, second);
+    }
+    if event < LOOKS {
+        let mark = Mark::of(MarkKind::at(event - SWAPS), place, 0);
+        return Event::Swapped(mark, u64::from(first), u64::from(second));
+    }
+    let mark = Mark::of(MarkKind::at(event - LOOKS), place, second);
+    Event::Looked(mark, u64::from(first))
+}
+
+fn ring_event_of(kind: u32, ring: Ring, first: u32, second: u32) -> Event
+    ensures { result ≡ ring_event kind ring first second }
 {
     match kind {
-        0 => Event::Granted(ring_of(side, place), first),
-        1 => Event::Submitted(ring_of(side, place)),
-        2 => Event::Items(ring_of(side, place), first),
-        3 => Event::Empty(ring_of(side, place), first),
-        4 => Event::Released(ring_of(side, place), first),
-        5 => Event::Full(ring_of(side, place), first, second),
-        6 => Event::Swapped(mark_of(side, place, 0), u64::from(first), u64::from(second)),
-        _ => Event::Looked(mark_of(side, place, second), u64::from(first)),
+        0 => Event::Granted(ring, first),
+        1 => Event::Submitted(ring),
+        2 => Event::Items(ring, first),
+        3 => Event::Empty(ring, first),
+        4 => Event::Released(ring, first),
+        _ => Event::Full(ring, first, second),
     }
 }
 
@@ -337,20 +325,5 @@ fn ring_of(side: u32, place: u32) -> Ring
         1 => Ring::Comp(place),
         2 => Ring::Rx(place),
         _ => Ring::Tx(place),
-    }
-}
-
-fn mark_of(side: u32, place: u32, index: u32) -> Mark
-    ensures { result ≡ mark_at side place index }
-{
-    match side {
-        0 => Mark::NeedFill(place),
-        1 => Mark::NeedTx(place),
-        2 => Mark::Kick(place),
-        3 => Mark::RxDone(place),
-        4 => Mark::Gone(place),
-        5 => Mark::TxDone(place),
-        6 => Mark::Cell(place, index),
-        _ => Mark::Closing(place),
     }
 }

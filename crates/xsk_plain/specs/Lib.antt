@@ -1,4 +1,3 @@
-pub mod Bases
 pub mod Checked
 pub mod Counts
 pub mod Engine

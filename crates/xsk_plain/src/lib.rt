@@ -1,7 +1,6 @@
 //! The AF_XDP object on one thread, with the log of all calls on it, or without.
 #![tactic(auto)]
 
-mod bases;
 mod checked;
 pub mod laws;
 mod moving;
@@ -13,6 +12,6 @@ mod ring_store;
 mod unlogged;
 
 pub use checked::Checked;
-pub use plain::{OpenRefused, Plain, items_room, payload_room};
+pub use plain::{OpenRefused, Plain, items_room};
 pub use ring_store::RingCounts;
 pub use unlogged::Unlogged;

@@ -1,19 +1,20 @@
 //! The rings and marks of a configuration, and single calls on them.
 ghost use Rattle.std.specs.Prelude.{◌≡◌, vec_len};
+ghost use Rattle.xsk_model.specs.Bases.{ring_bases, mark_bases};
 ghost use Rattle.xsk_model.specs.Marks.{mark_places_of};
 ghost use Rattle.xsk_model.specs.Sizes.{sizes_of};
-ghost use Rattle.xsk_plain.specs.Bases.{ring_bases, mark_bases};
 ghost use Rattle.xsk_plain.specs.Stores.{sizes_in};
 
-use crate::bases::{first_marks, first_rings, mark_number, ring_number};
 use crate::moving::{give_back, put_items, put_unnoted, take_items, take_unnoted};
 use crate::opening::{fill_pools, open_marks, open_rings};
 use crate::ring_store::{RingCounts, RingStore};
 use std::alloc::Global;
 use std::mem;
 use xsk_log::Log;
-use xsk_model::placement::{has_mark, has_ring};
-use xsk_model::{Call, Config, Mark, Ring};
+use xsk_model::placement::{
+    first_marks, first_rings, has_mark, has_ring, mark_number, ring_number,
+};
+use xsk_model::{Ask, Config, Mark, Ring};
 use xsk_umem::{Batch, Frames, MOST_ITEMS};
 
 /// The rings and the marks of a configuration, by place.
@@ -35,6 +36,7 @@ impl Object {
     ghost use Rattle.std.specs.Prelude.{◌≡◌, ◌+◌, ◌<◌, ◌≤◌, ◌↔◌, ℕ, List, [], ◌++◌, length, take, map, slice_get, Some, vec_len, All, IfOk, IfErr, IsOk, IsTrue};
     ghost use Rattle.std.specs.Option.{option_map};
     ghost use Rattle.xsk_umem.specs.declared.batch.Item.{Item as AnItem};
+    ghost use Rattle.xsk_model.specs.Asks.{joined_call};
     ghost use Rattle.xsk_plain.specs.Counts.{counts_of, number_of};
     ghost use Rattle.std.specs.List.{slice_index_or};
     ghost use Rattle.xsk_umem.specs.Frames.{Frames as Queue};
@@ -216,23 +218,23 @@ impl Object {
         self.marks[place]
     }
 
-    /// Whether a call can be performed: its ring or mark exists, a Submit has at most as many items as places are
-    /// reserved, a Peek asks for 1 to 32, and a Release for at most as many as are held.
-    pub(crate) fn can_perform(&self, call: &Call) -> bool
-        ensures { IsTrue result ↔ CanPerform self.now.config (parts_of self.now.rings.items) call.now }
+    /// Whether the call, whose items are in the batch, can be performed: its ring or mark exists, a Submit has at most as many
+    /// items as places are reserved, a Peek asks for 1 to 32, and a Release for at most as many as are held.
+    pub(crate) fn can_perform(&self, ask: Ask, items: &Batch) -> bool
+        ensures { IsTrue result ↔ CanPerform self.now.config (parts_of self.now.rings.items) (joined_call ask items.now) }
     {
-        match call {
-            Call::Reserve(ring, _) => has_ring(&self.config, *ring),
-            Call::Submit(ring, items) => {
-                has_ring(&self.config, *ring) && items.len() <= self.taken(*ring).0
+        match ask {
+            Ask::Reserve(ring, _) => has_ring(&self.config, ring),
+            Ask::Submit(ring) => {
+                has_ring(&self.config, ring) && items.len() <= self.taken(ring).0
             }
-            Call::Peek(ring, count) => {
-                has_ring(&self.config, *ring) && *count >= 1 && *count <= MOST_ITEMS
+            Ask::Peek(ring, count) => {
+                has_ring(&self.config, ring) && count >= 1 && count <= MOST_ITEMS
             }
-            Call::Release(ring, count) => {
-                has_ring(&self.config, *ring) && *count <= self.taken(*ring).1
+            Ask::Release(ring, count) => {
+                has_ring(&self.config, ring) && count <= self.taken(ring).1
             }
-            Call::Swap(mark, _) | Call::Look(mark) => has_mark(&self.config, *mark),
+            Ask::Swap(mark, _) | Ask::Look(mark) => has_mark(&self.config, mark),
         }
     }
 

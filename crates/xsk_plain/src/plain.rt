@@ -7,9 +7,11 @@ ghost use Rattle.xsk_model.specs.Asks.{joined_call, joined_reply, HasAsked, HasA
 ghost use Rattle.xsk_model.specs.Config.{Config as Parts, HasRing, IsLawful, size_of};
 ghost use Rattle.xsk_model.specs.declared.ask.Ask.{Ask as AnAsk};
 ghost use Rattle.xsk_model.specs.Expected.{IsReplyTo, IsReserved, IsPeeked, IsOld};
-ghost use Rattle.xsk_model.specs.Object.{State, reply_at, after, submitted};
+ghost use Rattle.xsk_model.specs.Object.{State, reply_at, after};
 ghost use Rattle.xsk_model.specs.Opening.{AreFrames, opening};
 ghost use Rattle.xsk_model.specs.Stored.{stored_entry};
+ghost use Rattle.xsk_model.specs.declared.call.Call.{Call};
+ghost use Rattle.xsk_model.specs.declared.call.Reply.{Reply};
 ghost use Rattle.xsk_plain.specs.Counts.{counts_of, number_of};
 ghost use Rattle.xsk_plain.specs.Engine.{Shows, CanPerform, frames_out, part_in};
 ghost use Rattle.xsk_log.specs.Left.{left_of};
@@ -24,7 +26,7 @@ use std::alloc::Global;
 use std::marker::Model;
 use thiserror::Error;
 use xsk_log::{Event, LineBuffer, Lines, Log};
-use xsk_model::{Answer, Ask, Call, Config, Mark, Reply, Ring};
+use xsk_model::{Answer, Ask, Config, Mark, Ring};
 use xsk_umem::{Batch, Frames, OutOfMemory};
 
 /// The most bytes of a chunk.
@@ -146,41 +148,17 @@ impl Plain {
         self.object.frame(ring, i)
     }
 
-    /// Whether a call can be performed: its ring or mark exists, a Submit has at most as many items as places are
-    /// reserved, a Peek asks for 1 to 32, and a Release for at most as many as are held. Each legal call can.
-    pub fn can_perform(&self, call: &Call) -> bool
-        ensures { IsTrue result ↔ CanPerform self.now.config self.now.rings call.now }
+    /// Whether the call, whose items are in the batch, can be performed: its ring or mark exists, a Submit has at most as many
+    /// items as places are reserved, a Peek asks for 1 to 32, and a Release for at most as many as are held. Each legal call can.
+    pub fn can_perform(&self, ask: Ask, items: &Batch) -> bool
+        ensures { IsTrue result ↔ CanPerform self.now.config self.now.rings (joined_call ask items.now) }
     {
-        self.object.can_perform(call)
+        self.object.can_perform(ask, items)
     }
 
-    /// Makes the call for the caller, gives its reply and logs both. It must be one that can be performed, and the log
-    /// must have room for it.
-    #[inline(always)]
-    pub fn perform(&mut self, who: u32, call: Call) -> Reply
-        requires can { CanPerform self.old.config self.old.rings call }
-        requires entries { 1 ≤ self.old.spare_entries }
-        requires bytes { payload_bytes self.old.config call ≤ self.old.spare_bytes }
-
-        // The reply and the change are the object's, in each state that is shown.
-        ensures reply { (s : State) → Shows self.old s → result ≡ reply_at self.old.config s call }
-        ensures state { (s : State) → Shows self.old s → Shows self.new (after self.old.config s who call) }
-        ensures kind { IsReplyTo call result }
-        ensures log { self.new.log ≡ self.old.log ++ stored_entry self.old.config.geometry self.old.config.sg (record { who = who; call = call; reply = result }) ∷ [] }
-        ensures config { self.new.config ≡ self.old.config }
-        ensures calls { self.new.calls ≡ self.old.calls + 1 }
-        ensures entries { self.new.spare_entries + 1 ≡ self.old.spare_entries }
-        ensures bytes { self.new.spare_bytes + payload_bytes self.old.config call ≡ self.old.spare_bytes }
-    {
-        let mut items = Batch::new();
-        let ask = call.split(&mut items);
-        let answer = self.serve(who, ask, &mut items);
-        answer.joined(items)
-    }
-
-    /// Makes the call as `perform` does, with the items of a Submit taken from the batch, and those of a Peek put there.
-    /// No batch is moved by it. The batch must be empty unless the call is a Submit, and is left empty unless items were
-    /// taken.
+    /// Makes the call for the caller, and logs it with its reply. It must be one that can be performed, and the log must have
+    /// room for it. The items of a Submit are taken from the batch, and those of a Peek put there. It must be empty unless
+    /// the call is a Submit, and is left empty unless items were taken.
     #[inline(always)]
     pub fn serve(&mut self, who: u32, ask: Ask, items: &mut Batch) -> Answer
         requires can { CanPerform self.old.config self.old.rings (joined_call ask items.old) }
@@ -320,17 +298,6 @@ impl Plain {
         let old = self.object.look(mark);
         self.log.enter(who, Event::Looked(mark, old), 0);
         Answer::Old(old)
-    }
-}
-
-/// The most payload bytes that the log keeps of a call: 4,096, the bytes of the larger chunk, for each item of a Submit.
-pub fn payload_room(call: &Call) -> u32
-    ensures exact { result ≡ 4096 * length (submitted call.now) }
-    ensures enough { (config : Parts) → IsGeometry config.geometry → payload_bytes config call.now ≤ result }
-{
-    match call {
-        Call::Submit(_, items) => items.len() * MOST_CHUNK,
-        _ => 0,
     }
 }
 

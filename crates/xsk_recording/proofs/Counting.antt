@@ -49,11 +49,11 @@ call-strays s d past (Cancel r n) small = omega arith
 told-strays : (s : Setting) (d line : ℕ) (calls : List Numbered) (told : Told) → IsSmall told
     → strays_given s d (calls_of (with_told line calls told)) ≤ strays_given s d (calls_of calls) + 32
 told-strays s d line calls (Judged call) small = call-strays s d (calls_of calls) call small
-told-strays s d line calls Aside small = omega arith
+told-strays s d line calls (Aside wakeup) small = omega arith
 
 told-few : (line : ℕ) (calls : List Numbered) (told : Told) → length (with_told line calls told) ≤ length calls + 1
 told-few line calls (Judged call) = omega arith
-told-few line calls Aside = omega arith
+told-few line calls (Aside wakeup) = omega arith
 
 step-counted : (r n : Read) (xs : List ℕ) → line_after r xs ≡ Some n → IsCounted r → IsCounted n
 step-counted r n xs after counted =
@@ -81,7 +81,7 @@ head-is x y xs ys is = cc
 told-small : (line : ℕ) (calls : List Numbered) (told : Told) (x : Numbered) → IsSmall told → with_told line calls told ≡ x ∷ calls → IsSmallCall x.call
 told-small line calls (Judged call) x small is =
     subst (λ (n : Numbered). IsSmallCall n.call) (head-is (record { line = line; call = call }) x calls calls is) small
-told-small line calls Aside x small is = absurd (longer calls x is)
+told-small line calls (Aside wakeup) x small is = absurd (longer calls x is)
 
 pub call-small-of : (r n : Read) (xs : List ℕ) (x : Numbered) → line_after r xs ≡ Some n → n.calls ≡ x ∷ r.calls → IsSmallCall x.call
 call-small-of r n xs x after is =

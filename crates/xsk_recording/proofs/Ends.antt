@@ -7,7 +7,7 @@ use Rattle.xsk_lines.specs.Lines.{in_front, lines_of}
 use Rattle.xsk_lines.specs.Reading.{◌>>=◌}
 use Rattle.xsk_recording.specs.Line.{line_at}
 use Rattle.xsk_recording.specs.Header.{Header, header_after}
-use Rattle.xsk_recording.specs.Text.{Read, nothing_read, line_after, lines_after, body_after, call_after, with_told, most_bytes, most_lines, ends_line}
+use Rattle.xsk_recording.specs.Text.{Read, nothing_read, line_after, lines_after, body_after, call_after, with_told, with_aside, most_bytes, most_lines, ends_line}
 use Rattle.xsk_recording.specs.Feeding.{Reader, has_no_feed, joined, StandsFor, is_calls}
 use Rattle.xsk_recording.specs.Verdict.{IsSound, Begins, IsVerdict}
 use Rattle.xsk_recording.specs.declared.head.Next.{Next}
@@ -31,7 +31,7 @@ told-counts r n t is = elim (cases_Bool (nat_lt t.time r.time)) [
   | inl early ↦ cc (rw early at is)
   | inr later ↦
       sym (ap (λ (x : Read). x.lines)
-      (some-value (record r { time = t.time; lines = r.lines + 1; calls = with_told (r.lines + 1) r.calls t.told }) n (rw later at is)))
+      (some-value (record r { time = t.time; lines = r.lines + 1; calls = with_told (r.lines + 1) r.calls t.told; asides = with_aside (r.lines + 1) r.asides t.told }) n (rw later at is)))
 ]
 
 call-counts : (r n : Read) (t : Option Timed) → (t >>= call_after r) ≡ Some n → n.lines ≡ r.lines + 1

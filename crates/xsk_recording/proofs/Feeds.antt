@@ -142,7 +142,7 @@ read-next old new text r piece used rest an_event.Passed stands cut line told (i
   piece_is = cut;
   line = line-front old.begun used stands.begun line;
   told = goes-then r (old.begun ++ used) r.calls _ _
-      (λ n is rest. (stands-line old new text r used n stands (line-front old.begun used stands.begun line) is rest.0 empty, rest.1)) told;
+      (λ n is rest. (stands-line old new text r used n stands (line-front old.begun used stands.begun line) is rest.0 empty, rest.1, rest.2)) told;
 }
 read-next old new text r piece used rest (an_event.Setting s) stands cut line told (inl fault) = absurd fault
 read-next old new text r piece used rest (an_event.Setting s) stands cut line told (inr empty) = record {
@@ -150,7 +150,7 @@ read-next old new text r piece used rest (an_event.Setting s) stands cut line to
   piece_is = cut;
   line = line-front old.begun used stands.begun line;
   told = goes-then r (old.begun ++ used) r.calls _ _
-      (λ n is rest. (stands-line old new text r used n stands (line-front old.begun used stands.begun line) is rest.0 empty, rest.1, rest.2)) told;
+      (λ n is rest. (stands-line old new text r used n stands (line-front old.begun used stands.begun line) is rest.0 empty, rest.1, rest.2, rest.3)) told;
 }
 read-next old new text r piece used rest (an_event.NoSetting error) stands cut line told (inl fault) = absurd fault
 read-next old new text r piece used rest (an_event.NoSetting error) stands cut line told (inr empty) = record {
@@ -166,7 +166,15 @@ read-next old new text r piece used rest (an_event.Call call) stands cut line to
   piece_is = cut;
   line = line-front old.begun used stands.begun line;
   told = goes-then r (old.begun ++ used) (record { line = r.lines + 1; call = call } ∷ r.calls) _ _
-      (λ n is rest. stands-line old new text r used n stands (line-front old.begun used stands.begun line) is rest empty) told;
+      (λ n is rest. (stands-line old new text r used n stands (line-front old.begun used stands.begun line) is rest.0 empty, rest.1)) told;
+}
+read-next old new text r piece used rest (an_event.Aside wakeup) stands cut line told (inl fault) = absurd fault
+read-next old new text r piece used rest (an_event.Aside wakeup) stands cut line told (inr empty) = record {
+  used = used;
+  piece_is = cut;
+  line = line-front old.begun used stands.begun line;
+  told = goes-then r (old.begun ++ used) r.calls _ _
+      (λ n is rest. (stands-line old new text r used n stands (line-front old.begun used stands.begun line) is rest.0 empty, rest.1, rest.2)) told;
 }
 read-next old new text r piece used rest an_event.Fault stands cut line told empty = λ later. record {
   before = stands.whole;

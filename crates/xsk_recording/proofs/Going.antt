@@ -6,13 +6,15 @@ use Rattle.xsk_side.specs.Setting.{Setting}
 use Rattle.xsk_lines.specs.Reading.{◌>>=◌, choose, word_at}
 use Rattle.xsk_recording.specs.Line.{line_at, is_ended}
 use Rattle.xsk_recording.specs.Header.{Header, header_after, towards, umem_at, pair_at, socket_at, rules_at, with_pair, with_socket, umem_line, pair_line, socket_line, kernel_line}
-use Rattle.xsk_recording.specs.Text.{Read, line_after, body_after, call_after, with_told, most_bytes, most_lines, ends_line}
+use Rattle.xsk_recording.specs.Text.{Read, line_after, body_after, call_after, with_told, with_aside, most_bytes, most_lines, ends_line}
 use Rattle.xsk_recording.specs.Feeding.{is_calls}
 use Rattle.xsk_recording.specs.declared.head.Next.{Next}
 use Rattle.xsk_recording.specs.declared.head.Next.TheVariants.{Title, Umem, Pairs, Sockets, Mark, Calls}
 use Rattle.xsk_recording.specs.declared.line.Told.{Told}
 use Rattle.xsk_recording.specs.declared.line.Told.TheVariants.{Aside}
 use Rattle.xsk_recording.specs.declared.line.Timed.{Timed}
+use Rattle.xsk_recording.specs.declared.wakeup.Wakeup.TheVariants.{Kick}
+use Rattle.xsk_model.specs.declared.call.Ring.TheVariants.{Fill}
 use Rattle.xsk_recording.proofs.Lines.{line-late}
 use Rattle.xsk_recording.proofs.Small.{if-bound, if-chosen, if-tested, IsSmall, IsSmallLine, line-small}
 
@@ -69,14 +71,14 @@ header-step next r n P None leads is after = cc after
 header-step next r n P (Some h) leads is after =
     let m : Read = record r { header = h; lines = r.lines + 1 } in
     let same : m ≡ n = some-value m n after in
-    (Aside, tt, sym (ap (λ (x : Read). x.calls) same), sym (ap (λ (x : Read). x.lines) same), subst (Leads next r) same (leads h is))
+    (Aside (Kick (Fill 0)), tt, sym (ap (λ (x : Read). x.calls) same), sym (ap (λ (x : Read). x.lines) same), subst (Leads next r) same (leads h is))
 
 call-step : (r n : Read) (t : Option Timed) → IfSome t IsSmallLine → (t >>= call_after r) ≡ Some n → HasStep Calls r n
 call-step r n None small after = cc after
 call-step r n (Some t) small after = elim (cases_Bool (nat_lt t.time r.time)) [
   | inl early ↦ cc (rw early at after)
   | inr later ↦
-      let m : Read = record r { time = t.time; lines = r.lines + 1; calls = with_told (r.lines + 1) r.calls t.told } in
+      let m : Read = record r { time = t.time; lines = r.lines + 1; calls = with_told (r.lines + 1) r.calls t.told; asides = with_aside (r.lines + 1) r.asides t.told } in
       let same : m ≡ n = some-value m n (rw later at after) in (
         t.told,
         small,

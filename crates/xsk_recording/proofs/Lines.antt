@@ -7,13 +7,14 @@ use Rattle.xsk_lines.specs.Reading.{◌>>=◌}
 use Rattle.xsk_recording.specs.Line.{line_at, ended, is_ended}
 use Rattle.xsk_recording.specs.Header.{Header, header_line, header_after, towards}
 use Rattle.xsk_recording.specs.Heads.{head_view, is_mark, IsNoSetting}
-use Rattle.xsk_recording.specs.Text.{Read, line_after, body_after, header_read, call_after, with_told, most_bytes, most_lines, ends_line}
+use Rattle.xsk_recording.specs.Text.{Read, line_after, body_after, header_read, call_after, with_told, with_aside, most_bytes, most_lines, ends_line}
 use Rattle.xsk_recording.specs.Feeding.{Reader, Shows, KeepsSetting, Tells, IsHanded, is_calls}
 use Rattle.xsk_recording.specs.declared.head.Next.{Next}
 use Rattle.xsk_recording.specs.declared.head.Next.TheVariants.{Title, Umem, Pairs, Sockets, Mark, Calls}
 use Rattle.xsk_recording.specs.declared.line.Timed.{Timed}
 use Rattle.xsk_recording.specs.declared.line.Told.{Told}
 use Rattle.xsk_recording.specs.declared.line.Told.TheVariants.{Judged, Aside}
+use Rattle.xsk_recording.specs.declared.wakeup.Wakeup.{Wakeup}
 use Rattle.xsk_recording.specs.declared.reading.Event.{Event}
 use Rattle.xsk_recording.specs.declared.reading.Event.TheVariants as an_event
 use Rattle.xsk_side.specs.declared.call.Call.{Call}
@@ -79,6 +80,7 @@ pub record IsHeaded (r : Read) (xs : List ℕ) (header : Header) : Type 0 where
   pub read : Read
   pub is : header_read r xs ≡ Some read
   pub calls : read.calls ≡ r.calls
+  pub asides : read.asides ≡ r.asides
   pub time : read.time ≡ r.time
   pub lines : read.lines ≡ r.lines + 1
   pub headed : (read.header ≡ header) ⊎ ((read.header.next ≡ Calls) × (header.next ≡ Calls))
@@ -93,6 +95,7 @@ headed-same r xs true header is = record {
   read = record r { header = header; lines = r.lines + 1 };
   is = rw (sym is) refl;
   calls = refl;
+  asides = refl;
   time = refl;
   lines = refl;
   headed = inl refl;
@@ -105,6 +108,7 @@ mark-ends r xs true header s mark ends told = record {
   read = record r { header = towards Calls r.header.setting; lines = r.lines + 1 };
   is = rw (mark, ends) refl;
   calls = refl;
+  asides = refl;
   time = refl;
   lines = refl;
   headed = inr (refl, ap (λ (h : Header). h.next) (some-value header (towards Calls s) told));
@@ -214,6 +218,7 @@ header-passed old new r xs header has told other same time lines =
             (subst (λ (a : Header). KeepsSetting header.next header.setting a.setting) (sym same) (keeps-self header.next header.setting))
             (time ∙ has.0.time) (lines ∙ ap (λ n. n + 1) has.0.lines),
         λ mark. cc (sym other ∙ ap is_mark (sym (next-headed r xs header h) ∙ mark)),
+        h.asides,
       );
     }
 
@@ -226,7 +231,7 @@ mark-is Mark mark = refl
 mark-is Calls mark = cc mark
 
 abbrev pub ReadUpTo : Reader → Read → List ℕ → Header → Type 0
-ReadUpTo new r xs header = (n : Read) × (line_after r xs ≡ Some n) × (n.calls ≡ r.calls) × Shows new n × (n.header.next ≡ Mark) × (n.header ≡ header)
+ReadUpTo new r xs header = (n : Read) × (line_after r xs ≡ Some n) × (n.calls ≡ r.calls) × Shows new n × (n.header.next ≡ Mark) × (n.header ≡ header) × (n.asides ≡ r.asides)
 
 read-up-to : (old new : Reader) (r : Read) (xs : List ℕ) (header : Header) → HasHeader old r xs
     → head_view true header ≡ header_after old.header xs → is_mark header.next ≡ true
@@ -240,6 +245,7 @@ read-up-to old new r xs header has told mark next time lines =
       shows-headed r xs header new h next (subst (λ (n : Next). KeepsSetting n header.setting new.header.setting) (sym is) tt) (time ∙ has.0.time) (lines ∙ ap (λ n. n + 1) has.0.lines),
       next-headed r xs header h ∙ is,
       mark-headed r xs header h is,
+      h.asides,
     )
 
 handed : (new : Reader) (r : Read) (xs : List ℕ) (header : Header) (event : Event) → ReadUpTo new r xs header → IsHanded header.setting event → Tells r xs event (Shows new)
@@ -249,7 +255,7 @@ handed new r xs header (an_event.Setting s) up is = record {
   read = up.0;
   is = up.1;
   calls_are = up.2;
-  rest = (up.3, up.4, ap (λ (h : Header). h.setting) up.5 ∙ sym is);
+  rest = (up.3, up.4, ap (λ (h : Header). h.setting) up.5 ∙ sym is, up.6);
 }
 handed new r xs header (an_event.NoSetting error) up is = record {
   read = up.0;
@@ -258,6 +264,7 @@ handed new r xs header (an_event.NoSetting error) up is = record {
   rest = (up.3, up.4, subst (λ (h : Header). IsNoSetting h.setting error) (sym up.5) is);
 }
 handed new r xs header (an_event.Call call) up is = absurd is
+handed new r xs header (an_event.Aside wakeup) up is = absurd is
 handed new r xs header an_event.Fault up is = absurd is
 
 pub header-handed : (old new : Reader) (r : Read) (xs : List ℕ) (header : Header) (event : Event) → HasHeader old r xs
@@ -288,17 +295,19 @@ pub record CallRead (new : Reader) (r : Read) (xs : List ℕ) (told : Told) : Ty
   pub read : Read
   pub is : line_after r xs ≡ Some read
   pub calls : read.calls ≡ with_told (r.lines + 1) r.calls told
+  pub asides : read.asides ≡ with_aside (r.lines + 1) r.asides told
   pub shows : Shows new read
-  pub begun : is_calls read.header.next ≡ true
+  pub begun : is_calls r.header.next ≡ true
 
 pub call-told : (old new : Reader) (r : Read) (xs : List ℕ) (t : Timed) → HasCall old r xs → line_at xs ≡ Some t → old.time ≤ t.time
     → new.header ≡ old.header → new.time ≡ t.time → new.lines ≡ old.lines + 1 → CallRead new r xs t.told
 call-told old new r xs t has some later header time lines = record {
-  read = record r { time = t.time; lines = r.lines + 1; calls = with_told (r.lines + 1) r.calls t.told };
+  read = record r { time = t.time; lines = r.lines + 1; calls = with_told (r.lines + 1) r.calls t.told; asides = with_aside (r.lines + 1) r.asides t.told };
   is =
       call-here old r xs has ∙ ap (λ (x : Option Timed). x >>= call_after r) some
       ∙ rw (le-ltb _ _ (subst (λ n. n ≤ t.time) has.0.time later)) refl;
   calls = refl;
+  asides = refl;
   shows = record {
     next = ap (λ (h : Header). h.next) header ∙ has.0.next;
     setting = subst (λ (h : Header). KeepsSetting r.header.next r.header.setting h.setting) (sym header) has.0.setting;
@@ -309,7 +318,16 @@ call-told old new r xs t has some later header time lines = record {
 }
 
 pub judged-told : (new : Reader) (r : Read) (xs : List ℕ) (call : Call) → CallRead new r xs (Judged call) → Tells r xs (an_event.Call call) (Shows new)
-judged-told new r xs call told = record { read = told.read; is = told.is; calls_are = told.calls; rest = told.shows }
+judged-told new r xs call told = record { read = told.read; is = told.is; calls_are = told.calls; rest = (told.shows, told.asides) }
 
-pub aside-told : (new : Reader) (r : Read) (xs : List ℕ) → CallRead new r xs Aside → Tells r xs an_event.Passed (Shows new)
-aside-told new r xs told = record { read = told.read; is = told.is; calls_are = told.calls; rest = (told.shows, λ mark. cc (sym told.begun ∙ ap is_calls mark)) }
+begun-is : (next : Next) → is_calls next ≡ true → next ≡ Calls
+begun-is Title calls = cc calls
+begun-is Umem calls = cc calls
+begun-is Pairs calls = cc calls
+begun-is Sockets calls = cc calls
+begun-is Mark calls = cc calls
+begun-is Calls calls = refl
+
+pub aside-told : (new : Reader) (r : Read) (xs : List ℕ) (wakeup : Wakeup) → CallRead new r xs (Aside wakeup) → Tells r xs (an_event.Aside wakeup) (Shows new)
+aside-told new r xs wakeup told =
+    record { read = told.read; is = told.is; calls_are = told.calls; rest = (told.shows, begun-is r.header.next told.begun, told.asides) }

@@ -13,7 +13,7 @@ use Rattle.xsk_lines.specs.Reading.{◌>>=◌}
 use Rattle.xsk_recording.specs.Line.{line_at, is_ended}
 use Rattle.xsk_recording.specs.Header.{towards}
 use Rattle.xsk_recording.specs.Heads.{IsNoSetting}
-use Rattle.xsk_recording.specs.Text.{Numbered, Read, nothing_read, line_after, lines_after, body_after, header_read, call_after, with_told, most_bytes, most_lines, ends_line}
+use Rattle.xsk_recording.specs.Text.{Numbered, Read, nothing_read, line_after, lines_after, body_after, header_read, call_after, with_told, with_aside, most_bytes, most_lines, ends_line}
 use Rattle.xsk_recording.specs.Verdict.{calls_of, IsSound, Begins, IsStuck, IsVerdict}
 use Rattle.xsk_recording.specs.Laws.{OneVerdict}
 use Rattle.xsk_recording.specs.declared.head.Next.{Next}
@@ -61,14 +61,14 @@ one-error s an_error.Sockets an_error.Sockets x y = refl
 
 told-sound : (s : Setting) (line : ℕ) (calls : List Numbered) (told : Told) → Possible s (calls_of (with_told line calls told)) → Possible s (calls_of calls)
 told-sound s line calls (Judged call) is = first_parts s (call ∷ []) (calls_of calls) is
-told-sound s line calls Aside is = is
+told-sound s line calls (Aside wakeup) is = is
 
 call-sound : (r n : Read) (t : Option Timed) → r.header.next ≡ Calls → (t >>= call_after r) ≡ Some n → IsSound n.header.next n → IsSound Calls r
 call-sound r n None is after sound = cc after
 call-sound r n (Some t) is after sound = elim (cases_Bool (nat_lt t.time r.time)) [
   | inl early ↦ cc (rw early at after)
   | inr later ↦
-      let m : Read = record r { time = t.time; lines = r.lines + 1; calls = with_told (r.lines + 1) r.calls t.told } in
+      let m : Read = record r { time = t.time; lines = r.lines + 1; calls = with_told (r.lines + 1) r.calls t.told; asides = with_aside (r.lines + 1) r.asides t.told } in
       let same : m ≡ n = some-value m n (rw later at after) in
       let all : IsSound r.header.next m = subst (λ (x : Read). IsSound x.header.next x) (sym same) sound in
       told-sound r.header.setting (r.lines + 1) r.calls t.told (subst (λ (k : Next). IsSound k m) is all)

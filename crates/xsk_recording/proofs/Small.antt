@@ -9,6 +9,7 @@ use Rattle.xsk_lines.specs.Reading.{◌>>=◌, choose, word_at, small_at, ring_a
 use Rattle.xsk_recording.specs.Line.{is_end, is_ended, closed, ended, entries_at, some_entries, listed_at, counted_at, answer_at, reserve_at, free_at, submit_at, shown_at, peek_at, release_at, cancel_at, look_at, kick_at, other_at, call_at, stamp_at, line_at}
 use Rattle.xsk_recording.specs.declared.line.Told.{Told}
 use Rattle.xsk_recording.specs.declared.line.Told.TheVariants.{Judged, Aside}
+use Rattle.xsk_recording.specs.declared.wakeup.Wakeup.TheVariants.{Look, Kick}
 use Rattle.xsk_recording.specs.declared.line.Timed.{Timed}
 
 -- ---- what holds of all that may be read
@@ -67,7 +68,7 @@ IsSmallCall (Cancel r n) = Unit {0}
 
 abbrev pub IsSmall : Told → Type 0
 IsSmall (Judged call) = IsSmallCall call
-IsSmall Aside = Unit {0}
+IsSmall (Aside wakeup) = Unit {0}
 
 reserve-small : (xs : List ℕ) → IfSome (reserve_at xs) IsSmall
 unfolding reserve_at
@@ -120,14 +121,16 @@ cancel-small xs =
 look-small : (xs : List ℕ) → IfSome (look_at xs) IsSmall
 unfolding look_at
 look-small xs =
-    if-bound IsSmall (ring_at xs) (λ ring. if is_ended (codes " -> 0") ring.1 || is_ended (codes " -> 1") ring.1 then Some Aside else None)
-    (λ ring. if-tested IsSmall (is_ended (codes " -> 0") ring.1 || is_ended (codes " -> 1") ring.1) (Some Aside) None tt tt)
+    if-bound IsSmall (ring_at xs)
+    (λ ring. if is_ended (codes " -> 0") ring.1 then Some (Aside (Look ring.0 false)) else if is_ended (codes " -> 1") ring.1 then Some (Aside (Look ring.0 true)) else None)
+    (λ ring. if-tested IsSmall (is_ended (codes " -> 0") ring.1) (Some (Aside (Look ring.0 false))) _ tt
+    (if-tested IsSmall (is_ended (codes " -> 1") ring.1) (Some (Aside (Look ring.0 true))) None tt tt))
 
 kick-small : (xs : List ℕ) → IfSome (kick_at xs) IsSmall
 unfolding kick_at
 kick-small xs =
-    if-bound IsSmall (ring_at xs) (λ ring. ended (codes " -> 0") Aside ring.1)
-    (λ ring. if-tested IsSmall (is_ended (codes " -> 0") ring.1) (Some Aside) None tt tt)
+    if-bound IsSmall (ring_at xs) (λ ring. ended (codes " -> 0") (Aside (Kick ring.0)) ring.1)
+    (λ ring. if-tested IsSmall (is_ended (codes " -> 0") ring.1) (Some (Aside (Kick ring.0))) None tt tt)
 
 other-small : (xs : List ℕ) → IfSome (other_at xs) IsSmall
 unfolding other_at

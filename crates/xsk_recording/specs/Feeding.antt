@@ -80,10 +80,12 @@ pub record Goes (r : Read) (line : List ℕ) (calls : List Numbered) (Then : Rea
 -- what an event tells of the next line
 abbrev pub Tells : Read → List ℕ → Event → (Read → Type 0) → Type 0
 Tells r line an_event.Begun Then = ⊥
-Tells r line an_event.Passed Then = Goes r line r.calls (λ n. Then n × (n.header.next ≡ Mark → ⊥))
-Tells r line (an_event.Setting s) Then = Goes r line r.calls (λ n. Then n × (n.header.next ≡ Mark) × (n.header.setting ≡ s))
+Tells r line an_event.Passed Then = Goes r line r.calls (λ n. Then n × (n.header.next ≡ Mark → ⊥) × (n.asides ≡ r.asides))
+Tells r line (an_event.Setting s) Then = Goes r line r.calls (λ n. Then n × (n.header.next ≡ Mark) × (n.header.setting ≡ s) × (n.asides ≡ r.asides))
 Tells r line (an_event.NoSetting error) Then = Goes r line r.calls (λ n. Then n × (n.header.next ≡ Mark) × IsNoSetting n.header.setting error)
-Tells r line (an_event.Call call) Then = Goes r line (record { line = r.lines + 1; call = call } ∷ r.calls) Then
+Tells r line (an_event.Call call) Then = Goes r line (record { line = r.lines + 1; call = call } ∷ r.calls) (λ n. Then n × (n.asides ≡ r.asides))
+Tells r line (an_event.Aside wakeup) Then =
+    Goes r line r.calls (λ n. Then n × (r.header.next ≡ Calls) × (n.asides ≡ record { line = r.lines + 1; wakeup = wakeup } ∷ r.asides))
 Tells r line an_event.Fault Then = line_after r line ≡ None
 
 -- the lines of a text that were read, and one behind them that isn't of the form
@@ -109,6 +111,7 @@ IsNext old new text r piece an_event.Passed rest = IsUsed old new text r piece a
 IsNext old new text r piece (an_event.Setting s) rest = IsUsed old new text r piece (an_event.Setting s) rest
 IsNext old new text r piece (an_event.NoSetting error) rest = IsUsed old new text r piece (an_event.NoSetting error) rest
 IsNext old new text r piece (an_event.Call call) rest = IsUsed old new text r piece (an_event.Call call) rest
+IsNext old new text r piece (an_event.Aside wakeup) rest = IsUsed old new text r piece (an_event.Aside wakeup) rest
 IsNext old new text r piece an_event.Fault rest = (later : List ℕ) → HasFault (text ++ piece ++ later) r
 
 abbrev pub IsFault : Event → Type 0
@@ -117,6 +120,7 @@ IsFault an_event.Passed = ⊥
 IsFault (an_event.Setting s) = ⊥
 IsFault (an_event.NoSetting error) = ⊥
 IsFault (an_event.Call call) = ⊥
+IsFault (an_event.Aside wakeup) = ⊥
 IsFault an_event.Fault = Unit {0}
 
 -- a part of a line is kept, behind what was kept, unless it is too long
@@ -131,4 +135,5 @@ IsHanded s an_event.Passed = ⊥
 IsHanded s (an_event.Setting told) = told ≡ s
 IsHanded s (an_event.NoSetting error) = IsNoSetting s error
 IsHanded s (an_event.Call call) = ⊥
+IsHanded s (an_event.Aside wakeup) = ⊥
 IsHanded s an_event.Fault = ⊥

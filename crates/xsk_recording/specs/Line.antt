@@ -3,7 +3,7 @@
 --     TIME THREAD PLACE CALL -> REPLY
 --
 -- Rings and entries are written as in a journal (docs/AUDIT.md). A reader gives what it read, with the text behind it where more follows.
-use Rattle.std.specs.Prelude.{ℕ, zero, suc, ◌==◌, Bool, false, ◌||◌, not, if◌then◌else◌, Option, None, Some, List, [], ◌∷◌, codes, drop}
+use Rattle.std.specs.Prelude.{ℕ, zero, suc, ◌==◌, Bool, false, ◌||◌, not, if◌then◌else◌, Option, None, Some, List, [], ◌∷◌, codes, drop, true}
 use Rattle.xsk_umem.specs.declared.batch.XdpDesc.{XdpDesc}
 use Rattle.xsk_model.specs.declared.call.Ring.{Ring}
 use Rattle.xsk_side.specs.declared.call.Answer.{Answer}
@@ -11,6 +11,7 @@ use Rattle.xsk_side.specs.declared.call.Answer.TheVariants.{Granted, Full, Refus
 use Rattle.xsk_side.specs.declared.call.Call.TheVariants.{Reserve, Free, Submit, Peek, Release, Cancel}
 use Rattle.xsk_lines.specs.Reading.{Reads, ◌>>=◌, choose, word_at, number_at, small_at, ring_at, desc_at, begins_item}
 use Rattle.xsk_recording.specs.declared.line.Told.{Told}
+use Rattle.xsk_recording.specs.declared.wakeup.Wakeup.TheVariants.{Look, Kick}
 use Rattle.xsk_recording.specs.declared.line.Told.TheVariants.{Judged, Aside}
 use Rattle.xsk_recording.specs.declared.line.Timed.{Timed}
 
@@ -105,10 +106,13 @@ cancel_at xs = counted_at xs >>= λ c. ended (codes "cancelled") (Judged (Cancel
 -- a look at a need-wakeup flag, and a wake: any kernel may answer so
 unfoldable pub look_at : List ℕ → Option Told
 look_at xs =
-    ring_at xs >>= λ ring. if is_ended (codes " -> 0") ring.1 || is_ended (codes " -> 1") ring.1 then Some Aside else None
+    ring_at xs >>= λ ring.
+    if is_ended (codes " -> 0") ring.1 then Some (Aside (Look ring.0 false))
+    else if is_ended (codes " -> 1") ring.1 then Some (Aside (Look ring.0 true))
+    else None
 
 unfoldable pub kick_at : List ℕ → Option Told
-kick_at xs = ring_at xs >>= λ ring. ended (codes " -> 0") Aside ring.1
+kick_at xs = ring_at xs >>= λ ring. ended (codes " -> 0") (Aside (Kick ring.0)) ring.1
 
 -- calls that tell of counts and flags alone
 unfoldable pub other_at : List ℕ → Option Told

@@ -8,6 +8,7 @@ use Rattle.xsk_recording.specs.Header.{Header, no_header, header_after}
 use Rattle.xsk_recording.specs.declared.line.Told.{Told}
 use Rattle.xsk_recording.specs.declared.line.Told.TheVariants.{Judged, Aside}
 use Rattle.xsk_recording.specs.declared.line.Timed.{Timed}
+use Rattle.xsk_recording.specs.declared.wakeup.Wakeup.{Wakeup}
 use Rattle.xsk_recording.specs.declared.head.Next.{Next}
 use Rattle.xsk_recording.specs.declared.head.Next.TheVariants.{Title, Umem, Pairs, Sockets, Mark, Calls}
 
@@ -16,26 +17,36 @@ pub record Numbered : Type 0 where
   pub line : ℕ
   pub call : Call
 
--- What the first lines tell: the header's, the last time, how many lines these are, and the calls, the latest first.
+-- a look at a flag or a wake with the number of its line
+pub record Beside : Type 0 where
+  pub line : ℕ
+  pub wakeup : Wakeup
+
+-- What the first lines tell: the header's, the last time, how many lines these are, and the calls, and looks and wakes, the latest first.
 pub record Read : Type 0 where
   pub header : Header
   pub time : ℕ
   pub lines : ℕ
   pub calls : List Numbered
+  pub asides : List Beside
 
 abbrev pub nothing_read : Read
-nothing_read = record { header = no_header; time = 0; lines = 0; calls = [] }
+nothing_read = record { header = no_header; time = 0; lines = 0; calls = []; asides = [] }
 
 -- ---- calls
 
 abbrev pub with_told : ℕ → List Numbered → Told → List Numbered
 with_told line calls (Judged call) = record { line = line; call = call } ∷ calls
-with_told line calls Aside = calls
+with_told line calls (Aside wakeup) = calls
+
+abbrev pub with_aside : ℕ → List Beside → Told → List Beside
+with_aside line asides (Judged call) = asides
+with_aside line asides (Aside wakeup) = record { line = line; wakeup = wakeup } ∷ asides
 
 abbrev pub call_after : Read → Timed → Option Read
 call_after r t =
     if nat_lt t.time r.time then None
-    else Some (record r { time = t.time; lines = r.lines + 1; calls = with_told (r.lines + 1) r.calls t.told })
+    else Some (record r { time = t.time; lines = r.lines + 1; calls = with_told (r.lines + 1) r.calls t.told; asides = with_aside (r.lines + 1) r.asides t.told })
 
 -- ---- lines
 

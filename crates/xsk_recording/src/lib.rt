@@ -6,7 +6,9 @@ pub mod laws;
 mod line;
 mod reading;
 mod verdict;
+mod wakeup;
 mod words;
 
 pub use reading::{Event, Reading};
 pub use verdict::Verdict;
+pub use wakeup::Wakeup;

@@ -2,6 +2,7 @@
 ghost use Rattle.std.specs.Prelude.{◌≡◌, [], IfOk, IfSome};
 ghost use Rattle.xsk_recording.specs.Line.{line_at, call_at, other_at, reserve_at, free_at, submit_at, peek_at, shown_at, release_at, cancel_at, look_at, kick_at};
 
+use crate::wakeup::Wakeup;
 use crate::words::{answer, counted, is_end, is_ended, listed, stamp};
 use std::alloc::Global;
 use xsk_lines::{ring, small, word};
@@ -15,7 +16,7 @@ pub(crate) enum Told {
     /// A call on a ring, with its reply.
     Judged(Call),
     /// A look at a need-wakeup flag, or a wake: any kernel may answer so.
-    Aside,
+    Aside(Wakeup),
 }
 
 /// What a line tells, and when.
@@ -193,21 +194,23 @@ fn cancel(text: &[u8]) -> Option<Told>
 fn look(text: &[u8]) -> Option<Told>
     ensures { result ≡ look_at text.now }
 {
-    let (_ring, rest) = ring(text)?;
-    if is_ended(rest, b" -> 0".as_slice()) || is_ended(rest, b" -> 1".as_slice()) {
-        Some(Told::Aside)
-    } else {
-        None
+    let (ring, rest) = ring(text)?;
+    if is_ended(rest, b" -> 0".as_slice()) {
+        return Some(Told::Aside(Wakeup::Look(ring, false)));
     }
+    if is_ended(rest, b" -> 1".as_slice()) {
+        return Some(Told::Aside(Wakeup::Look(ring, true)));
+    }
+    None
 }
 
 #[tactic(auto, unfolding(crate::specs::Line::kick_at))]
 fn kick(text: &[u8]) -> Option<Told>
     ensures { result ≡ kick_at text.now }
 {
-    let (_ring, rest) = ring(text)?;
+    let (ring, rest) = ring(text)?;
     if is_ended(rest, b" -> 0".as_slice()) {
-        Some(Told::Aside)
+        Some(Told::Aside(Wakeup::Kick(ring)))
     } else {
         None
     }

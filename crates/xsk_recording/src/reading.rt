@@ -7,6 +7,7 @@ ghost use Rattle.xsk_recording.specs.Verdict.{IsSound, IsVerdict};
 use crate::head::{Head, Next};
 use crate::line::{Timed, Told, line};
 use crate::verdict::Verdict;
+use crate::wakeup::Wakeup;
 use memchr::memchr;
 use std::alloc::Global;
 use std::marker::Model;
@@ -25,7 +26,7 @@ const MOST_LINES: u64 = 1 << 58;
 pub enum Event {
     /// A line begins, and the piece ends within it.
     Begun,
-    /// A line of the header, a look at a flag, or a wake.
+    /// A line of the header.
     Passed,
     /// The header's line of the kernel, and the setting that the header has told.
     Setting(Setting),
@@ -33,6 +34,8 @@ pub enum Event {
     NoSetting(SettingError),
     /// A line of a call.
     Call(Call),
+    /// A line of a look at a flag, or of a wake.
+    Aside(Wakeup),
     /// A line that isn't of the form: this is no recording.
     Fault,
 }
@@ -243,7 +246,7 @@ impl Reading {
         self.lines += 1;
         Ok(match told {
             Told::Judged(call) => Event::Call(call),
-            Told::Aside => Event::Passed,
+            Told::Aside(wakeup) => Event::Aside(wakeup),
         })
     }
 }

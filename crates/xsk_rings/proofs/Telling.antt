@@ -6,6 +6,9 @@ use Rattle.xsk_model.specs.Config.{size_of}
 use Rattle.xsk_model.specs.Rings.{producer}
 use Rattle.xsk_model.specs.Object.{ring_at, free, peek_reply, reply_at, taken}
 use Rattle.xsk_model.specs.Entry.{Entry, own, all_told}
+use Rattle.xsk_model.specs.Asks.{HasAnswered}
+use Rattle.xsk_model.specs.declared.ask.Answer.{Answer}
+use Rattle.xsk_model.specs.declared.ask.Answer.TheVariants as answer
 use Rattle.xsk_model.specs.Own.{peeked_step, peeked_of, submitted_of}
 use Rattle.xsk_model.specs.Opening.{opening}
 use Rattle.xsk_model.specs.History.{state_after}
@@ -164,3 +167,13 @@ known_found p v r n known uncovered is = is ∙ ap (λ b. with_known p r (cond b
 
 pub not_both : (b : Bool) → b ≡ false → b ≡ true → ⊥
 not_both b is_false is_true = cc
+
+-- an answer that gives no items has none beside it
+pub none_answered : (answer : Answer) → HasAnswered answer []
+none_answered answer.Granted = refl
+none_answered (answer.Full free) = refl
+none_answered answer.Submitted = refl
+none_answered answer.Items = tt
+none_answered answer.Empty = refl
+none_answered answer.Released = refl
+none_answered (answer.Old number) = refl

@@ -1,5 +1,6 @@
 //! A pass that tells which of its caller's calls are legal.
-ghost use Rattle.std.specs.Prelude.{◌≡◌, ◌+◌, ◌<◌, ◌≤◌, ◌↔◌, [], IfOk, IfErr, IsTrue};
+ghost use Rattle.std.specs.Prelude.{◌≡◌, ◌+◌, ◌<◌, ◌≤◌, ◌↔◌, List, [], IfOk, IfErr, IsTrue};
+ghost use Rattle.xsk_umem.specs.declared.batch.Item.{Item as Thing};
 ghost use Rattle.xsk_model.specs.Asks.{joined_call, joined_reply, HasAsked, HasAnswered};
 ghost use Rattle.xsk_model.specs.Config.{callers_of};
 ghost use Rattle.xsk_model.specs.Entry.{own};
@@ -13,12 +14,11 @@ ghost use Rattle.xsk_rings.specs.Rounds.{Rests, mine_of};
 ghost use Rattle.xsk_rings.specs.Checked.{NotesOwn};
 
 use crate::calls::RingCalls;
-use crate::serving;
 use std::alloc::Global;
 use std::marker::{Brand, Model};
 use std::sync::ledger::{Blank, Ledger};
 use xsk_legal::Standing;
-use xsk_model::{Answer, Ask, Call, Reply, Ring};
+use xsk_model::{Answer, Ask, Ring};
 use xsk_table::{Note, Pass, Shared, Steps};
 use xsk_umem::Batch;
 
@@ -63,20 +63,20 @@ impl CheckedPass {
         self.pass.caller()
     }
 
-    /// Whether the call is legal after all calls that the caller has made, and their replies.
-    pub fn allows(&self, shared: &Shared, call: &Call) -> bool
+    /// Whether the call, whose items are in the batch, is legal after all calls that the caller has made, and their replies.
+    pub fn allows(&self, shared: &Shared, ask: Ask, items: &Batch) -> bool
         requires { Belongs shared.now self.now }
-        ensures { IsTrue result ↔ IsLegal self.now.view.setup.config (own self.now.who self.now.view.seen) self.now.who call.now }
+        ensures { IsTrue result ↔ IsLegal self.now.view.setup.config (own self.now.who self.now.view.seen) self.now.who (joined_call ask items.now) }
     {
-        self.standing.allows(shared.config(), call)
+        self.standing.allows(shared.config(), ask, items)
     }
 
     /// Whether a call is a Reserve or a Peek that what is known covers, as `Pass::covers` tells.
-    pub fn covers(&self, shared: &Shared, call: &Call) -> bool
-        requires { MayAsk shared.now self.now call.now }
-        ensures { result ≡ is_covered self.now call.now }
+    pub fn covers(&self, shared: &Shared, ask: Ask) -> bool
+        requires { (items : List Thing) × MayAsk shared.now self.now (joined_call ask items) }
+        ensures { result ≡ is_covered self.now (joined_call ask []) }
     {
-        self.pass.covers(shared, call)
+        self.pass.covers(shared, ask)
     }
 
     /// Makes a Reserve by a look at the consumer's count, whatever is known of it, and counts one look.
@@ -197,7 +197,7 @@ fn reserve_noted<L: Ledger>(
 {
     let config = shared.config();
     let at = shared.ring_place(ring);
-    let answer = serving::reserve_anew(pass, shared, ring, at, count, steps);
+    let answer = pass.reserve_step(shared, ring, at, count, steps);
     let none = Batch::new();
     standing.got(config, Ask::Reserve(ring, count), answer, &none);
     answer
@@ -233,24 +233,5 @@ impl RingCalls for CheckedPass {
             items,
             blank,
         )
-    }
-
-    fn perform_counted<L: Ledger>(
-        &mut self,
-        shared: &Shared,
-        call: Call,
-        steps: &mut Steps<L>,
-    ) -> Reply {
-        let mut items = Batch::new();
-        let ask = call.split(&mut items);
-        let answer = self.serve_counted(shared, ask, &mut items, steps);
-        answer.joined(items)
-    }
-
-    fn perform(&mut self, shared: &Shared, call: Call) -> Reply {
-        let mut items = Batch::new();
-        let ask = call.split(&mut items);
-        let answer = self.serve(shared, ask, &mut items);
-        answer.joined(items)
     }
 }

@@ -4,12 +4,11 @@ ghost use Rattle.xsk_umem.specs.declared.batch.Item.{Item as Thing};
 ghost use Rattle.xsk_model.specs.Asks.{joined_reply, HasAnswered};
 ghost use Rattle.xsk_model.specs.declared.call.Call.TheVariants.{Reserve, Submit, Peek, Release, Swap, Look};
 ghost use Rattle.xsk_table.specs.Plays.{Extends, still, items_reply};
-ghost use Rattle.xsk_table.specs.Known.{free_after};
-ghost use Rattle.xsk_table.specs.Held.{IsAt, is_covered, with_known};
-ghost use Rattle.xsk_rings.specs.Serving.{MayAsk, Served, Tells, known_after, looks_of};
+ghost use Rattle.xsk_table.specs.Held.{IsAt, is_covered};
+ghost use Rattle.xsk_rings.specs.Serving.{MayAsk, Tells, known_after, looks_of};
 
 use std::sync::ledger::Ledger;
-use xsk_model::{Answer, Mark, Reply, Ring};
+use xsk_model::{Answer, Mark, Ring};
 use xsk_table::{Pass, Shared, Steps};
 use xsk_umem::Batch;
 
@@ -31,32 +30,7 @@ pub(crate) fn reserve<L: Ledger>(
         pass.reserve_covered(shared, ring, at, count);
         return Answer::Granted;
     }
-    reserve_anew(pass, shared, ring, at, count, steps)
-}
-
-/// Reserves so many places of a ring by a look at the consumer's count. `at` is the ring's place.
-pub(crate) fn reserve_anew<L: Ledger>(
-    pass: &mut Pass,
-    shared: &Shared,
-    ring: Ring,
-    at: usize,
-    count: u32,
-    steps: &mut Steps<L>,
-) -> Answer
-    requires may { MayAsk shared.now pass.old (Reserve ring count) }
-    requires at { IsAt shared.now.setup.config ring at }
-    ensures served { Served pass.old pass.new (Reserve ring count) (joined_reply result []) }
-    ensures answered { HasAnswered result [] }
-    ensures known { pass.new.known ≡ with_known pass.old ring (free_after pass.old.view.setup pass.new.view.seen ring) }
-    ensures counted { steps.new ≡ steps.old + 1 }
-{
-    match pass.reserve_step(shared, ring, at, count, steps) {
-        Reply::Granted => Answer::Granted,
-        Reply::Full(free) => Answer::Full(free),
-        Reply::Submitted | Reply::Items(_) | Reply::Empty | Reply::Released | Reply::Old(_) => {
-            unreachable!()
-        }
-    }
+    pass.reserve_step(shared, ring, at, count, steps)
 }
 
 /// Puts all items of the batch into reserved places of a ring, and raises the producer over them.

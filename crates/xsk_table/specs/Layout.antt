@@ -7,13 +7,13 @@ use Rattle.std.specs.Prelude.{◌≡◌, ℕ, ◌+◌, ◌*◌, ◌<◌, Option,
 use Rattle.std.specs.List.{sum}
 use Rattle.xsk_model.specs.Config.{Config, IsConfig, HasRing, size_of}
 use Rattle.xsk_model.specs.Rings.{place}
+use Rattle.xsk_model.specs.Bases.{mark_bases as first_places}
 use Rattle.xsk_model.specs.Marks.{HasMark, mark_place, mark_places_of}
 use Rattle.xsk_model.specs.declared.config.SocketInfo.{SocketInfo}
 use Rattle.xsk_model.specs.declared.config.PairInfo.{PairInfo}
 use Rattle.xsk_model.specs.declared.call.Ring.{Ring}
 use Rattle.xsk_model.specs.declared.call.Ring.TheVariants.{Fill, Comp, Rx, Tx}
 use Rattle.xsk_model.specs.declared.call.Mark.{Mark}
-use Rattle.xsk_model.specs.declared.call.Mark.TheVariants.{NeedFill, NeedTx, Kick, RxDone, Gone, TxDone, Cell, Closing, Acked, Bounced}
 use Rattle.xsk_table.specs.declared.bases.MarkBases.{MarkBases}
 
 -- ---- widths
@@ -96,20 +96,13 @@ word_at c (entry r i) = ring_base c r + (32 + entry_words r * i)
 word_at c (second r i) = ring_base c r + (33 + entry_words r * i)
 word_at c (mark m) = marks_base c + (8 * mark_place c m + 7)
 
+-- the word of the mark of a place
+abbrev pub word_from : ℕ → ℕ → ℕ
+word_from base place = base + (8 * place + 7)
+
 -- where the first mark of each kind stands
 abbrev pub mark_bases : Config → MarkBases
-mark_bases c = record {
-  need_fill = word_at c (mark (NeedFill 0));
-  need_tx = word_at c (mark (NeedTx 0));
-  kick = word_at c (mark (Kick 0));
-  rx_done = word_at c (mark (RxDone 0));
-  gone = word_at c (mark (Gone 0));
-  tx_done = word_at c (mark (TxDone 0));
-  cells = word_at c (mark (Cell 0 0));
-  closing = word_at c (mark (Closing 0));
-  acked = word_at c (mark (Acked 0));
-  bounced = word_at c (mark (Bounced 0));
-}
+mark_bases c = record { words = map (word_from (marks_base c)) (first_places c) }
 
 -- each word has a place of its own
 abbrev pub OwnWords : Type 0

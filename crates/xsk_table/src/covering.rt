@@ -1,6 +1,7 @@
 //! Calls that the last look at the other side's count covers. Each is one look at the caller's own count.
-ghost use Rattle.std.specs.Prelude.{List, length, nat_le, ◌≡◌, ◌-◌, ◌<◌, ◌≤◌};
+ghost use Rattle.std.specs.Prelude.{List, [], length, nat_le, ◌≡◌, ◌-◌, ◌<◌, ◌≤◌};
 ghost use Rattle.xsk_umem.specs.declared.batch.Item.{Item};
+ghost use Rattle.xsk_model.specs.Asks.{joined_call};
 ghost use Rattle.xsk_model.specs.Entry.{own};
 ghost use Rattle.xsk_model.specs.Legal.{IsLegal};
 ghost use Rattle.xsk_model.specs.declared.call.Call.TheVariants.{Reserve, Peek};
@@ -17,7 +18,7 @@ use crate::shared::Shared;
 use crate::view::{Asking, View};
 use atomic_table::Play;
 use std::marker::{Brand, PhantomData};
-use xsk_model::{Call, Ring};
+use xsk_model::{Ask, Ring};
 use xsk_umem::Frame;
 
 /// The look of a Reserve that is covered.
@@ -122,16 +123,16 @@ impl Pass {
 
     /// Whether a call is a Reserve or a Peek of no more than what the last look at the other side's count found, less what
     /// was had of it since. It makes no step.
-    pub fn covers(&self, shared: &Shared, call: &Call) -> bool
+    pub fn covers(&self, shared: &Shared, ask: Ask) -> bool
         requires belongs { Belongs shared.now self.now }
-        requires legal { IsLegal self.now.view.setup.config (own self.now.who self.now.view.seen) self.now.who call.now }
-        ensures { result ≡ is_covered self.now call.now }
+        requires legal { (items : List Item) × IsLegal self.now.view.setup.config (own self.now.who self.now.view.seen) self.now.who (joined_call ask items) }
+        ensures { result ≡ is_covered self.now (joined_call ask []) }
     {
-        match call {
-            Call::Reserve(ring, n) | Call::Peek(ring, n) => {
-                self.knows(shared, *ring, shared.ring_place(*ring), *n)
+        match ask {
+            Ask::Reserve(ring, n) | Ask::Peek(ring, n) => {
+                self.knows(shared, ring, shared.ring_place(ring), n)
             }
-            Call::Submit(..) | Call::Release(..) | Call::Swap(..) | Call::Look(_) => false,
+            Ask::Submit(_) | Ask::Release(..) | Ask::Swap(..) | Ask::Look(_) => false,
         }
     }
 

@@ -1,6 +1,7 @@
 //! A caller's way to the rings: the step calls.
 ghost use Rattle.std.specs.Prelude.{List, [], ◌∷◌, ◌++◌, ℕ, length, ◌≡◌, ◌+◌, ◌<◌, ◌≤◌};
 ghost use Rattle.xsk_umem.specs.declared.batch.Item.{Item as Thing};
+ghost use Rattle.xsk_model.specs.Asks.{joined_reply};
 ghost use Rattle.xsk_model.specs.Config.{callers_of};
 ghost use Rattle.xsk_model.specs.Entry.{own};
 ghost use Rattle.xsk_model.specs.Object.{reserve_reply};
@@ -23,7 +24,7 @@ use crate::shared::Shared;
 use crate::{moves, steps};
 use std::marker::Model;
 use std::sync::ledger::Ledger;
-use xsk_model::{Reply, Ring};
+use xsk_model::{Answer, Ring};
 use xsk_umem::{Batch, Item};
 
 /// A caller's way to the rings. It knows what its own calls left, and holds no slot between them.
@@ -50,23 +51,23 @@ impl Model for Pass {
     ghost invariant = { λ p. PassHolds p.seat.me.0 p.seat.me.1 p.who p.ends.items p.flying × AreSure p.seat.me.0.setup p.who p.seat.me.0.seen (known_in p.ends.items) × AllIsLeft p.seat.me.0.setup p.who p.seat.me.0.seen (known_in p.ends.items) };
 }
 
-/// The reply to a Reserve of `n` where so many places are free.
-fn reply_by(n: u32, free: u32) -> Reply
-    ensures { result ≡ reserve_reply n free }
+/// The answer to a Reserve of `n` where so many places are free.
+fn answer_by(n: u32, free: u32) -> Answer
+    ensures { joined_reply result [] ≡ reserve_reply n free }
 {
     if n <= free {
-        Reply::Granted
+        Answer::Granted
     } else {
-        Reply::Full(free)
+        Answer::Full(free)
     }
 }
 
 /// The places that a Reserve of `n` got.
-fn granted_by(reply: &Reply, n: u32) -> u32
-    ensures { (r : Line) → result ≡ granted (Reserve r n) reply.now }
+fn granted_by(answer: Answer, n: u32) -> u32
+    ensures { (r : Line) → result ≡ granted (Reserve r n) (joined_reply answer []) }
 {
-    match reply {
-        Reply::Granted => n,
+    match answer {
+        Answer::Granted => n,
         _ => 0,
     }
 }
@@ -89,14 +90,14 @@ impl Pass {
         at: usize,
         n: u32,
         steps: &mut Steps<L>,
-    ) -> Reply
+    ) -> Answer
         requires belongs { Belongs shared.now self.old }
         requires at { IsAt shared.now.setup.config ring at }
         requires legal { IsLegal self.old.view.setup.config (own self.old.who self.old.view.seen) self.old.who (Reserve ring n) }
         requires rests { self.old.view.flight ≡ idle }
         ensures same { (self.new.table ≡ self.old.table) × (self.new.who ≡ self.old.who) }
         ensures flight { self.new.view.flight ≡ idle }
-        ensures history { Extends self.old.view.setup self.old.who (Reserve ring n) result self.old.view self.new.view }
+        ensures history { Extends self.old.view.setup self.old.who (Reserve ring n) (joined_reply result []) self.old.view self.new.view }
         ensures known { self.new.known ≡ with_known self.old ring (free_after self.old.view.setup self.new.view.seen ring) }
         ensures steps { steps.new ≡ steps.old + 1 }
     {
@@ -112,11 +113,11 @@ impl Pass {
             end.base + CONSUMER,
             steps,
         );
-        let reply = reply_by(n, free);
-        let got = granted_by(&reply, n);
+        let answer = answer_by(n, free);
+        let got = granted_by(answer, n);
         end.far = end.far.wrapping_add(got);
         end.known = free - got;
-        reply
+        answer
     }
 
     /// Puts the first item of `rest` into its entry, behind those that are placed, and its frame into its slot. The

@@ -46,10 +46,13 @@ fn make(shared: &Shared, pass: &mut CheckedPass, call: Call) -> Option<Reply>
     requires { Rests shared.now pass.old }
     ensures { Rests shared.now pass.new }
 {
-    if !pass.allows(shared, &call) {
+    let mut items = Batch::new();
+    let ask = call.split(&mut items);
+    if !pass.allows(shared, ask, &items) {
         return None;
     }
-    Some(pass.perform(shared, call))
+    let answer = pass.serve(shared, ask, &mut items);
+    Some(answer.joined(items))
 }
 
 fn item_on(frame: Frame, offset: u32, len: u32) -> Item {

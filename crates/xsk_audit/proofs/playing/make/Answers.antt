@@ -21,13 +21,13 @@ returns-then-not-lend-clause-made c frames h playing =
           (subst (λ (g : Geometry). Lacks g c.args.shelf.now (descs_of c.args.told.now)) geometry (c.lend.ensures.lacks (search rules))),
     )
 
-pub returns-then-not-permits-clause-made : goal.returns-then-not-permits-clause-made
-returns-then-not-permits-clause-made c frames h playing =
+pub returns-then-not-allows-clause-made : goal.returns-then-not-allows-clause-made
+returns-then-not-allows-clause-made c frames h playing =
     let geometry = c.geometry.ensures.value ∙ ap (λ (k : Config). k.geometry) c.config.ensures in (
       playing.run,
       refused-legal c.args.checked.now c.args.shelf.now frames h c.args.who c.args.ask c.args.told.now playing c.requires.asked c.requires.told c.lend.new.self c.lend.new.items
           (subst (λ (g : Geometry). IsLent g c.args.shelf.now c.lend.new.self (descs_of c.args.told.now) c.lend.new.items) geometry (c.lend.ensures.lent (search rules)))
-          (λ legal. not-true c.permits.result (search rules) (c.permits.ensures.1 legal)),
+          (λ legal. not-true c.allows.result (search rules) (c.allows.ensures.1 legal)),
     )
 
 pub serve-answer-requires-clause-items : goal.serve-answer-requires-clause-items
@@ -45,7 +45,7 @@ returns-clause-made c frames h playing =
     (subst (λ (g : Geometry). IsLent g c.args.shelf.now c.lend.new.self (descs_of c.args.told.now) c.lend.new.items) geometry lent)
     (subst (λ (g : Geometry). AreInPlace g c.lend.new.self) geometry c.lend.ensures.places) c.lend.ensures.count
     (asks-too c.args.ask c.lend.new.items c.args.told.now (as-many c.args.told.now c.lend.new.items lent.descs_are) c.requires.asked)
-    c.reserve_log.ensures.same (c.permits.ensures.0 (search rules)) serve.items
+    c.reserve_log.ensures.same (c.allows.ensures.0 (search rules)) serve.items
     (record { config = serve.config; log = serve.log; calls = serve.calls; spare_entries = serve.entries; spare_bytes = serve.bytes })
     (record { reply = serve.reply; state = serve.state })
     c.keep.ensures.kept

@@ -1,15 +1,20 @@
+use Rattle.std.proofs.Common.{arith}
 use Rattle.xsk_log.specs.declared.log.Event.TheVariants.{Looked, Swapped}
-use Rattle.xsk_log.proofs.RowDigits.{little_as, swap_below, look_within}
+use Rattle.xsk_log.proofs.RowDigits.{little_as}
 use Rattle.xsk_log.proofs.rows.digits_of.Goals as goal
 
 pub returns-in-Swapped-clause-small : goal.returns-in-Swapped-clause-small
 returns-in-Swapped-clause-small c = λ small.
-    let row = c.args.row.now in
-    let little = little_as row (Swapped c.in-Swapped.mark c.in-Swapped.value c.in-Swapped.old) c.in-Swapped.is small in
-    swap_below c.in-Swapped.mark c.in-Swapped.value c.in-Swapped.old row.items _ _ _ little c.of_swap.ensures.first c.of_swap.ensures.place c.of_swap.ensures.cell
+    let little = little_as c.args.row.now (Swapped c.in-Swapped.mark c.in-Swapped.value c.in-Swapped.old) c.in-Swapped.is small in (
+      omega (arith, little.0, c.of_swap.ensures.numbers.0),
+      omega (arith, little.2, c.of_swap.ensures.numbers.1),
+      omega (arith, little.3, c.of_swap.ensures.second little.1 little.4),
+    )
 
 pub returns-in-Looked-clause-small : goal.returns-in-Looked-clause-small
 returns-in-Looked-clause-small c = λ small.
-    let row = c.args.row.now in
-    let little = little_as row (Looked c.in-Looked.mark c.in-Looked.old) c.in-Looked.is small in
-    look_within c.in-Looked.mark c.in-Looked.old row.items _ _ _ little c.of_look.ensures.first c.of_look.ensures.place c.of_look.ensures.cell
+    let little = little_as c.args.row.now (Looked c.in-Looked.mark c.in-Looked.old) c.in-Looked.is small in (
+      omega (arith, little.0, c.of_look.ensures.numbers.0),
+      omega (arith, little.1, c.of_look.ensures.numbers.1),
+      omega (arith, little.2, c.of_look.ensures.second little.3),
+    )

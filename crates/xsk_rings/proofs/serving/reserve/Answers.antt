@@ -3,7 +3,7 @@ use Rattle.xsk_model.specs.Asks.{joined_reply}
 use Rattle.xsk_model.specs.declared.call.Call.TheVariants.{Reserve}
 use Rattle.xsk_model.specs.declared.call.Reply.TheVariants.{Granted}
 use Rattle.xsk_table.specs.Held.{is_covered}
-use Rattle.xsk_rings.proofs.Telling.{tells, known_reserved, known_looked, not_both}
+use Rattle.xsk_rings.proofs.Telling.{tells, known_reserved, known_looked, none_answered, not_both}
 use Rattle.xsk_rings.proofs.serving.reserve.Goals as goal
 
 pub returns-then-knows-clause-told : goal.returns-then-knows-clause-told
@@ -17,7 +17,12 @@ returns-then-knows-clause-told g c =
 pub returns-clause-told : goal.returns-clause-told
 returns-clause-told g c =
     let p = c.args.pass.now in
-    let q = c.reserve_anew.new.pass in
+    let q = c.reserve_step.new.self in
     let uncovered : is_covered p (Reserve c.args.ring c.args.count) ≡ false = sym c.knows.ensures ∙ c.if-knows.false in
-    tells p q (Reserve c.args.ring c.args.count) (joined_reply c.reserve_anew.result []) c.requires.may.legal c.reserve_anew.ensures.served (λ covers. absurd (not_both _ uncovered covers))
-    (known_looked p q.view c.args.ring c.args.count q.known uncovered c.reserve_anew.ensures.known)
+    let did = c.reserve_step.ensures in
+    tells p q (Reserve c.args.ring c.args.count) (joined_reply c.reserve_step.result []) c.requires.may.legal
+    (record { table = did.same.0; who = did.same.1; rests = did.flight; history = did.history }) (λ covers. absurd (not_both _ uncovered covers))
+    (known_looked p q.view c.args.ring c.args.count q.known uncovered did.known)
+
+pub returns-clause-answered : goal.returns-clause-answered
+returns-clause-answered g c = none_answered c.reserve_step.result

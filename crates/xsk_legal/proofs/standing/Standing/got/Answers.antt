@@ -41,26 +41,26 @@ pub returns-in-Release-clause-stands : goal.returns-in-Release-clause-stands
 returns-in-Release-clause-stands c =
     nothing_got c.args.config.now c.args.self.now c.args.ask _ c.args.answer c.args.items.now c.in-Release.is (λ h. h)
 
-pub got_swap-requires : goal.got_swap-requires
-got_swap-requires c =
+pub swapped-requires : goal.swapped-requires
+swapped-requires c =
     let mine = c.requires.may.0 in
     stands_for c.args.config.now c.args.self.now mine
     (given_swap c.args.config.now c.args.self.now mine c.args.ask c.in-Swap.mark c.in-Swap.value c.requires.may.1 c.in-Swap.is c.requires.may.2)
 
-pub got_look-requires : goal.got_look-requires
-got_look-requires c =
+pub looked-requires : goal.looked-requires
+looked-requires c =
     let mine = c.requires.may.0 in
     stands_for c.args.config.now c.args.self.now mine
     (given_look c.args.config.now c.args.self.now mine c.args.ask c.in-Look.mark c.requires.may.1 c.in-Look.is c.requires.may.2)
 
 pub returns-in-Old-clause-stands : goal.returns-in-Old-clause-stands
 returns-in-Old-clause-stands c =
-    swap_got c.args.config.now c.args.self.now c.got_swap.new.self c.args.ask c.in-Swap.mark c.in-Swap.value c.args.answer c.in-Old.old c.args.items.now c.in-Swap.is c.in-Old.is
-    c.got_swap.ensures.stands
+    swap_got c.args.config.now c.args.self.now c.swapped.new.self c.args.ask c.in-Swap.mark c.in-Swap.value c.args.answer c.in-Old.field-0 c.args.items.now c.in-Swap.is c.in-Old.is
+    (λ mine. c.swapped.ensures.stands mine c.in-Old.field-0)
 
 pub returns-in-Old-answer-clause-stands : goal.returns-in-Old-answer-clause-stands
 returns-in-Old-answer-clause-stands c =
-    look_got c.args.config.now c.args.self.now c.got_look.new.self c.args.ask c.in-Look.mark c.args.answer c.in-Old-answer.old c.args.items.now c.in-Look.is c.in-Old-answer.is c.got_look.ensures.stands
+    look_got c.args.config.now c.args.self.now c.looked.new.self c.args.ask c.in-Look.mark c.args.answer c.in-Old-answer.old c.args.items.now c.in-Look.is c.in-Old-answer.is c.looked.ensures.stands
 
 pub returns-in_default : goal.returns-in_default
 returns-in_default c = record {

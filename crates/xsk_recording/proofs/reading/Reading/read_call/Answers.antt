@@ -21,5 +21,5 @@ returns-clause-told c = λ r shows.
     (sym c.in_ok-time.ensures.told ∙ c.in-Some.is) (rw (← c.self.view_is) (omega (arith, c.if-time-self.false))) (rw (← c.self.view_is) refl) refl (rw (← c.self.view_is) refl) in
     elim c.match-told-3.branch [
       | in-Judged w ↦ rw w.result-is (judged-told new r c.args.text.now _ (subst (CallRead new r c.args.text.now) w.in-Judged.is told))
-      | in-Aside w ↦ rw w.result-is (aside-told new r c.args.text.now (subst (CallRead new r c.args.text.now) w.in-Aside.is told))
+      | in-Aside w ↦ rw w.result-is (aside-told new r c.args.text.now _ (subst (CallRead new r c.args.text.now) w.in-Aside.is told))
     ]
