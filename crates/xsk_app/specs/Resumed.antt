@@ -17,15 +17,15 @@ use Rattle.xsk_turns.specs.AppSplit.{HasLeft}
 use Rattle.xsk_turns.specs.Mangling.{plain}
 use Rattle.xsk_app.specs.Shown.{Shown}
 use Rattle.xsk_app.specs.Stands.{left}
-use Rattle.xsk_app.specs.declared.kept.Carried.{Carried}
+use Rattle.xsk_app.specs.declared.carried.Carried.{Carried}
 use Rattle.xsk_app.specs.declared.machine.Wait.TheVariants.{Start}
 
 -- what it keeps between steps, where it hasn't told that it sends nothing more, and changes nothing
 abbrev pub kept_in : Carried → AppKept
 kept_in k = record {
   pending = k.pending.items;
-  back = k.back0 ∷ k.back1 ∷ [];
-  seen = k.seen0 ∷ k.seen1 ∷ [];
+  back = k.backs.items;
+  seen = k.seen;
   gone = false ∷ false ∷ [];
   tx_done = false;
   manner = plain;

@@ -1,5 +1,5 @@
 -- What an application's machine has of its configuration, and where it may wait.
-use Rattle.std.specs.Prelude.{◌≡◌, ℕ, zero, suc, ◌+◌, ◌-◌, ◌*◌, ◌/◌, ◌%◌, ◌<◌, ◌==◌, Bool, if◌then◌else◌, Option, Some, None, List, [], ◌∷◌, length, slice_index}
+use Rattle.std.specs.Prelude.{◌≡◌, ℕ, zero, suc, ◌+◌, ◌/◌, ◌<◌, ◌==◌, Bool, if◌then◌else◌, Option, Some, None, List, [], ◌∷◌, length, slice_index}
 use Rattle.std.specs.List.{slice_index_or}
 use Rattle.std.specs.Coded.{×_prop, Unit-prop, le_prop}
 use Rattle.std.proofs.Props.{props}
@@ -13,12 +13,13 @@ use Rattle.xsk_app.specs.declared.machine.Next.TheVariants.{Lane, Side, Second, 
 use Rattle.xsk_app.specs.declared.machine.Wait.{Wait}
 use Rattle.xsk_app.specs.declared.machine.Wait.TheVariants.{LowerCell, DrainRx, ReleaseDrained, PeekRx, ReleaseRx, ReserveTx, SubmitTx, PeekComp, ReleaseComp, ReserveFill, SubmitFill, LookNeed, Kick, LookRxDone, LookGone}
 
--- the way of a lane between the pairs of two sides
-pub record IsWay (pairs : List ℕ) (classes lane : ℕ) (way : Way) : Type 0 where
-  pub rx : way.rx ≡ slice_index pairs (lane / classes) * classes + lane % classes
-  pub tx : way.tx ≡ slice_index pairs (1 - lane / classes) * classes + lane % classes
-  pub pair : way.pair ≡ slice_index pairs (1 - lane / classes)
-  pub side : way.side ≡ lane / classes
+-- the sockets of a lane, the pair of its TX ring and the side that receives
+pub record IsWay (c : Config) (app lane : ℕ) (way : Way) : Type 0 where
+  pub rx : way.rx ≡ rx_of c app lane
+  pub tx : way.tx ≡ tx_of c app lane
+  pub pair : way.pair ≡ tx_pair c app lane
+  pub side : way.side ≡ lane / classes_of c
+  pub below : way.side < 2
 
 -- each lane has its sockets, the pair of its TX ring and the side that receives
 pub record AreWays (c : Config) (app : ℕ) (ways : List Way) : Type 0 where

@@ -1,11 +1,10 @@
 //! The application, as other crates use it.
-ghost use Rattle.std.specs.Prelude.{◌≡◌, None, Some, List, ℕ, ◌+◌, ◌++◌, ◌-◌, ◌*◌, ◌/◌, ◌%◌, ◌<◌, ◌≤◌, IfOk, [], ◌∷◌, replicate, flat_map, slice_index};
+ghost use Rattle.std.specs.Prelude.{◌≡◌, None, Some, List, ℕ, ◌++◌, ◌<◌, IfOk, [], ◌∷◌, replicate, flat_map};
 ghost use Rattle.xsk_umem.specs.Frame.{Frame as AFrame};
 ghost use Rattle.xsk_turns.specs.AppTurns.{AppKept};
 ghost use Rattle.xsk_turns.specs.Giving.{with_frames};
 ghost use Rattle.xsk_turns.specs.Owned.{Suits};
 ghost use Rattle.xsk_model.specs.Marks.{apps_of};
-ghost use Rattle.xsk_app.specs.Ways.{IsWay};
 ghost use Rattle.xsk_model.specs.Config.{Config as AConfig, IsRegular};
 ghost use Rattle.xsk_model.specs.Entry.{Told, with_told};
 ghost use Rattle.xsk_model.specs.History.{Fits};
@@ -17,7 +16,7 @@ ghost use Rattle.xsk_turns.specs.Stepping.{joined_ask, joined_answer, IsGivenBac
 
 use crate::back::Back;
 use crate::closing::shut_on;
-use crate::machine::{Machine, Way};
+use crate::machine::Machine;
 use crate::start::start;
 use std::alloc::Global;
 use std::marker::Model;
@@ -145,24 +144,6 @@ impl<'a> App<'a> {
     }
 }
 
-/// A lane, by side and class: from each class of each side's pair to the same class of the other side's.
-pub(crate) fn way_of(pairs: [u32; 2], classes: u32, lane: u32) -> Way
-    requires some { 1 ≤ classes }
-    requires few { classes ≤ 4 }
-    requires first { slice_index pairs 0 < 64 }
-    requires second { slice_index pairs 1 < 64 }
-    requires lane { lane < 2 * classes }
-    ensures { IsWay pairs classes lane result }
-{
-    let side = (lane / classes) as usize;
-    Way {
-        rx: pairs[side] * classes + lane % classes,
-        tx: pairs[1 - side] * classes + lane % classes,
-        pair: pairs[1 - side],
-        side,
-    }
-}
-
 /// No item for each of so many lanes.
 pub(crate) fn new_pending(alloc: Global, lanes: usize) -> Result<Vec<Batch>, OutOfMemory>
     ensures { IfOk result (λ pending. pending.items ≡ replicate lanes []) }
@@ -175,7 +156,7 @@ pub(crate) fn new_pending(alloc: Global, lanes: usize) -> Result<Vec<Batch>, Out
 }
 
 /// No frame for each side.
-fn new_backs(alloc: Global) -> Result<Vec<Back>, OutOfMemory>
+pub(crate) fn new_backs(alloc: Global) -> Result<Vec<Back>, OutOfMemory>
     ensures { IfOk result (λ backs. backs.items ≡ [] ∷ [] ∷ []) }
 {
     let mut backs = Vec::with_capacity(alloc, 2)?;

@@ -5,16 +5,17 @@
 
 mod app;
 mod back;
+mod carried;
 mod closing;
 mod kept;
 mod machine;
 mod mangling;
-mod room;
 mod start;
 
 pub use app::App;
 pub use back::Back;
-pub use kept::{Carried, lane_way, resumed_tells, side_pair};
+pub use carried::Carried;
+pub use kept::{lane_way, resumed_tells, side_pair};
 pub use machine::Way;
 pub use xsk_model::Act;
 pub use xsk_turns::Manner;

@@ -47,12 +47,11 @@ pub(crate) fn start<'a>(
     let _geometry = config.geometry();
     let _queues = config.queues();
     let pairs = [side_pair(config, app, 0), side_pair(config, app, 1)];
-    let classes = config.classes();
     let machine = Machine {
         config,
         app,
         batch: config.batch(),
-        ways: fill_ways(ways, pairs, classes),
+        ways: fill_ways(ways, config, app),
         pairs,
         pending,
         backs,
@@ -61,7 +60,7 @@ pub(crate) fn start<'a>(
         tx_done: false,
         manner,
         number: 0,
-        classes,
+        classes: config.classes(),
         shut,
         awaited: manner.after,
         cut: [false; 2],

@@ -1,5 +1,5 @@
 -- The rings of the object and those of two parties are the same behind each call, and each reply is one that the ring may give.
-use Rattle.std.proofs.Common.{◌≡◌, ℕ, zero, suc, ◌+◌, ◌-◌, ◌<◌, ◌≤◌, ◌⊎◌, Bool, true, false, cond, nat_le, Option, Some, None, List, [], ◌∷◌, ◌++◌, length, take, drop, refl, sym, ap, ◌∙◌, subst, arith, ⊎_elim, inl, inr}
+use Rattle.std.proofs.Common.{◌≡◌, ℕ, zero, suc, ◌+◌, ◌-◌, ◌<◌, ◌≤◌, Bool, true, false, cond, nat_le, Some, List, [], ◌∷◌, ◌++◌, length, take, drop, refl, sym, ap, ◌∙◌, subst, arith, ⊎_elim, inl, inr}
 use Rattle.std.proofs.lemmas.List.{length-map, map-append, drop-map}
 use Rattle.std.proofs.lemmas.Bool.{cases_Bool}
 use Rattle.std.proofs.lemmas.Bool.Decides.{nat_tests}
@@ -13,8 +13,7 @@ use Rattle.xsk_model.specs.Legal.{IsKnown}
 use Rattle.xsk_model.specs.declared.call.Ring.{Ring}
 use Rattle.xsk_model.specs.declared.call.Call.{Call}
 use Rattle.xsk_model.specs.declared.call.Call.TheVariants.{Reserve, Submit, Peek, Release, Swap, Look}
-use Rattle.xsk_model.specs.declared.call.Reply.{Reply}
-use Rattle.xsk_model.specs.declared.call.Reply.TheVariants.{Granted, Full, Submitted, Items, Empty, Released, Old}
+use Rattle.xsk_model.specs.declared.call.Reply.TheVariants.{Granted, Full}
 use Rattle.xsk_model.proofs.Moves.{ring_reply, reply_at-on, ring_at-after_same, ring_at-after_other}
 use Rattle.xsk_model.proofs.Places.{place_below}
 use Rattle.xsk_side.specs.Object.{RingState as SideRing, Entry as SideEntry, Replies, ring_of, ring_at as side_at, ring_after as side_after, free as side_free}
@@ -22,7 +21,8 @@ use Rattle.xsk_side.specs.declared.call.Party.{Party}
 use Rattle.xsk_side.specs.declared.call.Answer.TheVariants as an_answer
 use Rattle.xsk_side.specs.declared.call.Call.{Call as SideCall}
 use Rattle.xsk_side.specs.declared.call.Call.TheVariants as a_side
-use Rattle.xsk_sides.specs.Sides.{entries, desc_in, side_call}
+use Rattle.xsk_side.proofs.Rings.{ring_else}
+use Rattle.xsk_sides.specs.Sides.{entries, desc_in, side_call, pushed}
 
 abbrev pub side_ring : RingState → SideRing
 side_ring ring = record { out = entries ring.out; held = entries ring.held; room = ring.room }
@@ -158,11 +158,7 @@ may_reply size ring (Look m) side is = absurd (cc)
 pub record IsSame (c : Config) (s : State) (past : List SideEntry) : Type 0 where
   pub rings : (r : Ring) → HasRing c r → side_at r past ≡ side_ring (ring_at c s r)
 
-abbrev pub pushed : Party → Option SideCall → List SideEntry → List SideEntry
-pushed who None past = past
-pushed who (Some call) past = record { who = who; call = call } ∷ past
-
--- a call on the ring
+-- a call on a ring
 here : (size : ℕ) (ring : RingState) (call : Call) (r : Ring) → is_on r call ≡ true
     → (side : SideCall) × (side_call call (ring_reply size ring call) ≡ Some side) × (is_ring r (ring_of side) ≡ true)
 here size ring (Reserve q n) r on = by (nat_le n (free size ring))
@@ -180,73 +176,38 @@ here size ring (Release q n) r on = (a_side.Release q n, refl, on)
 here size ring (Swap m value) r on = absurd (cc)
 here size ring (Look m) r on = absurd (cc)
 
--- and on another, or on none
-elsewhere : (r : Ring) (call : Call) (reply : Reply) → is_on r call ≡ false
-    → (side_call call reply ≡ None) ⊎ ((side : SideCall) × (side_call call reply ≡ Some side) × (is_ring r (ring_of side) ≡ false))
-elsewhere r (Reserve q n) Granted off = inr (a_side.Reserve q n an_answer.Granted, refl, off)
-elsewhere r (Reserve q n) (Full places) off = inr (a_side.Reserve q n (an_answer.Full places), refl, off)
-elsewhere r (Reserve q n) Submitted off = inl refl
-elsewhere r (Reserve q n) (Items got) off = inl refl
-elsewhere r (Reserve q n) Empty off = inl refl
-elsewhere r (Reserve q n) Released off = inl refl
-elsewhere r (Reserve q n) (Old old) off = inl refl
-elsewhere r (Submit q items) Granted off = inl refl
-elsewhere r (Submit q items) (Full places) off = inl refl
-elsewhere r (Submit q items) Submitted off = inr (a_side.Submit q (entries items), refl, off)
-elsewhere r (Submit q items) (Items got) off = inl refl
-elsewhere r (Submit q items) Empty off = inl refl
-elsewhere r (Submit q items) Released off = inl refl
-elsewhere r (Submit q items) (Old old) off = inl refl
-elsewhere r (Peek q n) Granted off = inl refl
-elsewhere r (Peek q n) (Full places) off = inl refl
-elsewhere r (Peek q n) Submitted off = inl refl
-elsewhere r (Peek q n) (Items got) off = inr (a_side.Peek q n (entries got), refl, off)
-elsewhere r (Peek q n) Empty off = inr (a_side.Peek q n [], refl, off)
-elsewhere r (Peek q n) Released off = inl refl
-elsewhere r (Peek q n) (Old old) off = inl refl
-elsewhere r (Release q n) Granted off = inl refl
-elsewhere r (Release q n) (Full places) off = inl refl
-elsewhere r (Release q n) Submitted off = inl refl
-elsewhere r (Release q n) (Items got) off = inl refl
-elsewhere r (Release q n) Empty off = inl refl
-elsewhere r (Release q n) Released off = inr (a_side.Release q n, refl, off)
-elsewhere r (Release q n) (Old old) off = inl refl
-elsewhere r (Swap m value) Granted off = inl refl
-elsewhere r (Swap m value) (Full places) off = inl refl
-elsewhere r (Swap m value) Submitted off = inl refl
-elsewhere r (Swap m value) (Items got) off = inl refl
-elsewhere r (Swap m value) Empty off = inl refl
-elsewhere r (Swap m value) Released off = inl refl
-elsewhere r (Swap m value) (Old old) off = inl refl
-elsewhere r (Look m) Granted off = inl refl
-elsewhere r (Look m) (Full places) off = inl refl
-elsewhere r (Look m) Submitted off = inl refl
-elsewhere r (Look m) (Items got) off = inl refl
-elsewhere r (Look m) Empty off = inl refl
-elsewhere r (Look m) Released off = inl refl
-elsewhere r (Look m) (Old old) off = inl refl
+-- a call on another, or on none
+elsewhere : (c : Config) (s : State) (party : Party) (past : List SideEntry) (r : Ring) (call : Call) → is_on r call ≡ false
+    → side_at r (pushed party (side_call call (reply_at c s call)) past) ≡ side_at r past
+elsewhere c s party past r (Reserve q n) off = by (nat_le n (free (size_of c q) (ring_at c s q)))
+  where
+    by : (b : Bool) → side_at r (pushed party (side_call (Reserve q n) (cond b Granted (Full (free (size_of c q) (ring_at c s q))))) past) ≡ side_at r past
+    by true = ring_else r past party (a_side.Reserve q n an_answer.Granted) off
+    by false = ring_else r past party (a_side.Reserve q n (an_answer.Full (free (size_of c q) (ring_at c s q)))) off
+elsewhere c s party past r (Submit q items) off = ring_else r past party (a_side.Submit q (entries items)) off
+elsewhere c s party past r (Peek q n) off = by (ring_at c s q).out
+  where
+    by : (out : List Item) → side_at r (pushed party (side_call (Peek q n) (peek_reply n out)) past) ≡ side_at r past
+    by [] = ring_else r past party (a_side.Peek q n []) off
+    by (item ∷ out) = ring_else r past party (a_side.Peek q n (entries (take n (item ∷ out)))) off
+elsewhere c s party past r (Release q n) off = ring_else r past party (a_side.Release q n) off
+elsewhere c s party past r (Swap m value) off = refl
+elsewhere c s party past r (Look m) off = refl
 
-pub same_step : (c : Config) (s : State) (who : ℕ) (call : Call) (reply : Reply) (party : Party) (past : List SideEntry) → IsSame c s past → IsKnown c call
-    → length s.rings ≡ places_of c → reply ≡ reply_at c s call → IsSame c (after c s who call) (pushed party (side_call call reply) past)
-same_step c s who call reply party past same known size is = record {
+pub same_step : (c : Config) (s : State) (who : ℕ) (call : Call) (party : Party) (past : List SideEntry) → IsSame c s past → IsKnown c call → length s.rings ≡ places_of c
+    → IsSame c (after c s who call) (pushed party (side_call call (reply_at c s call)) past)
+same_step c s who call party past same known size = record {
   rings = λ r has. ⊎_elim
       (λ (on : is_on r call ≡ true).
-      let ring = ring_at c s r in
+      let ring : RingState = ring_at c s r in
       let x = here (size_of c r) ring call r on in
-      let told : side_call call reply ≡ Some x.0 = ap (side_call call) (is ∙ reply_at-on c s call r on) ∙ x.1 in
+      let told : side_call call (reply_at c s call) ≡ Some x.0 = ap (side_call call) (reply_at-on c s call r on) ∙ x.1 in
       ap (λ o. side_at r (pushed party o past)) told
       ∙ ap (λ b. cond b (side_after (side_at r past) x.0) (side_at r past)) x.2
       ∙ ap (λ y. side_after y x.0) (same.rings r has)
       ∙ sym (after_call (size_of c r) ring call x.0 x.1)
       ∙ ap side_ring (sym (ring_at-after_same c s who call r has known (subst (λ k. place c r < k) (sym size) (place_below c r has)) on)))
       (λ (off : is_on r call ≡ false).
-      let rest : side_at r past ≡ side_ring (ring_at c (after c s who call) r) = same.rings r has ∙ ap side_ring (sym (ring_at-after_other c s who call r has known off)) in
-      ⊎_elim
-      (λ (none : side_call call reply ≡ None). ap (λ o. side_at r (pushed party o past)) none ∙ rest)
-      (λ (x : (side : SideCall) × (side_call call reply ≡ Some side) × (is_ring r (ring_of side) ≡ false)).
-      ap (λ o. side_at r (pushed party o past)) x.1
-      ∙ ap (λ b. cond b (side_after (side_at r past) x.0) (side_at r past)) x.2
-      ∙ rest)
-      (elsewhere r call reply off))
+      elsewhere c s party past r call off ∙ same.rings r has ∙ ap side_ring (sym (ring_at-after_other c s who call r has known off)))
       (cases_Bool (is_on r call));
 }

@@ -1,8 +1,7 @@
-use Rattle.std.proofs.Common.{rules, arith, ◌≡◌, ◌*◌, ◌≤◌, length}
+use Rattle.std.proofs.Common.{arith, ◌≤◌}
 use Rattle.xsk_turns.specs.AppTurns.{pair_of}
-use Rattle.xsk_app.specs.Ways.{AreWays}
 use Rattle.xsk_turns.proofs.Places.{batch_few, batch_some}
-use Rattle.xsk_app.proofs.Fresh.{ways_from, both_pairs}
+use Rattle.xsk_app.proofs.Fresh.{both_pairs}
 use Rattle.xsk_app.proofs.start.start.Goals as goal
 
 pub invariant_of-machine : goal.invariant_of-machine
@@ -13,10 +12,6 @@ invariant_of-machine c =
     let d1 = c.side_pair-2.result in
     let some : 1 ≤ c.batch.result = omega (arith, c.batch.ensures, batch_some k c.queues-queues.ensures.lawful) in
     let few : c.batch.result ≤ 32 = omega (arith, c.batch.ensures, batch_few k) in
-    let count : length c.fill_ways.result.items ≡ 2 * c.classes-classes.result = search rules in
-    let ways : AreWays k app c.fill_ways.result.items =
-    ways_from k app d0 d1 c.classes-classes.result c.fill_ways.result.items c.side_pair.ensures.pair c.side_pair-2.ensures.pair c.classes-classes.ensures c.requires.regular.classes
-    count (λ lane d h. c.fill_ways.ensures.ways lane d (omega (arith, h, count, c.fill_ways.ensures.count))) in
     record {
       pooled = c.requires.regular.lawful.some;
       classed = omega (arith, c.requires.regular.classes);
@@ -24,12 +19,12 @@ invariant_of-machine c =
       some = some;
       few = few;
       batch_is = c.batch.ensures;
-      ways_are = ways;
+      ways_are = c.fill_ways.ensures;
       pairs_are = both_pairs d0 d1 (pair_of k app 0) (pair_of k app 1) c.side_pair.ensures.pair c.side_pair-2.ensures.pair;
       lanes = c.requires.lanes;
       sides = c.requires.sides;
       numbered = omega arith;
-      classes_are = c.classes-classes.ensures;
+      classes_are = c.classes.ensures;
       shut_is = c.requires.shut;
       ready = tt;
     }
