@@ -1,0 +1,14 @@
+use Rattle.std.proofs.Common.{◌≡◌, ℕ, List, map, sym, ap, subst, ◌∙◌, Vec, Global}
+use Rattle.std.specs.Prelude.{All}
+use Rattle.xsk_pcapng.specs.Pcapng.{lists_of}
+use Rattle.xsk_pcapng.specs.Steps.{arrival_in, IsFoundIn}
+use Rattle.xsk_pcapng.specs.Written.{bare}
+use Rattle.xsk_pcapng.proofs.lists.lists_sharing.Goals as goal
+
+pub lists_over-requires-clause-within : goal.lists_over-requires-clause-within
+lists_over-requires-clause-within c =
+    subst (λ (text : Vec ℕ Global). All (IsFoundIn text.items) c.args.found.now) (sym c.in-Ok-new.ensures.ok) c.requires.within
+
+pub returns-in-Ok-lists_over-clause-lists : goal.returns-in-Ok-lists_over-clause-lists
+returns-in-Ok-lists_over-clause-lists c =
+    c.in-Ok-lists_over.ensures ∙ ap (λ (text : Vec ℕ Global). map bare (lists_of c.args.ports (map (arrival_in text.items) c.args.found.now))) c.in-Ok-new.ensures.ok
