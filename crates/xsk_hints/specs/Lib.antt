@@ -3,3 +3,4 @@ pub mod Facts
 pub mod Noted
 pub mod Tallies
 pub mod Told
+pub mod Wakes

@@ -25,11 +25,14 @@ numbered words n = words ++ decimal n
 abbrev pub count_line : Ring → List ℕ → ℕ → List ℕ
 count_line r words n = if n == 0 then [] else ring_text r ++ numbered words n ++ codes "\n"
 
+-- the first and the last line, or the only one
+abbrev pub lines_part : Tally → List ℕ
+lines_part t =
+    if t.first == t.last then numbered (codes ", line ") t.first else numbered (codes ", lines ") t.first ++ numbered (codes " to ") t.last
+
 -- how many there are of a ring, and their first and last line, where there is one
 abbrev pub tally_line : Ring → List ℕ → Tally → List ℕ
-tally_line r words t =
-    if t.count == 0 then []
-    else ring_text r ++ numbered words t.count ++ numbered (codes ", lines ") t.first ++ numbered (codes " to ") t.last ++ codes "\n"
+tally_line r words t = if t.count == 0 then [] else ring_text r ++ numbered words t.count ++ lines_part t ++ codes "\n"
 
 -- ---- FILL and TX
 

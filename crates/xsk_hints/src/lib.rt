@@ -8,6 +8,8 @@ mod oddity;
 mod rings;
 mod tally;
 mod text;
+mod wakes;
 
 pub use fills::Fills;
 pub use hints::Hints;
+pub use wakes::Wakes;

@@ -3,8 +3,10 @@ ghost use Rattle.std.specs.Prelude.{◌≡◌, List};
 ghost use Rattle.xsk_judge.specs.Stands.{Line, IsReady, StandsFor};
 ghost use Rattle.xsk_hints.specs.Facts.{since_at};
 ghost use Rattle.xsk_hints.specs.Tallies.{no_tally, tally_of, with_line, with_known};
+ghost use Rattle.xsk_hints.specs.Wakes.{tally_behind as behind_of, with_behind};
 
 use xsk_judge::{Judge, Known, Spot};
+use xsk_model::Ring;
 use xsk_side::Setting;
 
 /// How many lines, the first and the last; 0 where there is none. A count of 2^64 - 1 stands for more, too.
@@ -60,6 +62,28 @@ fn with_frame(tally: Tally, known: Known, spot: Spot) -> Tally
     ensures { result ≡ with_known spot known tally }
 {
     if known.place.spot().is(spot) {
+        tally.with(known.since)
+    } else {
+        tally
+    }
+}
+
+/// Since when the frames on a ring are there that came behind this line: a line for each.
+pub(crate) fn tally_behind(setting: &Setting, judge: &Judge, ring: Ring, line: u64) -> Tally
+    requires { IsReady setting.now judge.now }
+    ensures { (lines : List Line) → StandsFor setting.now judge.now lines → result ≡ behind_of setting.now lines ring line }
+{
+    let mut tally = Tally::none();
+    for frame in 0..setting.frames() {
+        tally = with_behind_line(tally, judge.known(setting, frame), Spot::On(ring), line);
+    }
+    tally
+}
+
+fn with_behind_line(tally: Tally, known: Known, spot: Spot, line: u64) -> Tally
+    ensures { result ≡ with_behind spot line known tally }
+{
+    if known.place.spot().is(spot) && known.since > line {
         tally.with(known.since)
     } else {
         tally

@@ -1,9 +1,11 @@
 //! The lines of the hints, and how a text grows.
 ghost use Rattle.std.specs.Prelude.{◌≡◌, ◌++◌, OnOk};
 ghost use Rattle.xsk_log.specs.Line.{ring_text};
-ghost use Rattle.xsk_hints.specs.Told.{numbered, count_line, tally_line, unpeeked, start_line, dry_line};
+ghost use Rattle.xsk_hints.specs.Told.{numbered, count_line, lines_part, tally_line, unpeeked, start_line, dry_line};
+ghost use Rattle.xsk_hints.specs.Wakes.{is_served as served, look_part, unwoken};
 
 use crate::tally::Tally;
+use crate::wakes::Wake;
 use itoa::Buffer;
 use xsk_model::Ring;
 use xsk_umem::OutOfMemory;
@@ -67,9 +69,19 @@ pub(crate) fn push_tally(
     }
     push_ring(text, ring)?;
     push_number(text, words, tally.count)?;
-    push_number(text, ", lines ", tally.first)?;
-    push_number(text, " to ", tally.last)?;
+    push_lines(text, tally)?;
     push_word(text, "\n")
+}
+
+/// The first and the last line, or the only one.
+fn push_lines(text: &mut Vec<u8>, tally: Tally) -> Result<(), OutOfMemory>
+    ensures { OnOk result (text.new.items ≡ text.old.items ++ lines_part tally) }
+{
+    if tally.first == tally.last {
+        return push_number(text, ", line ", tally.first);
+    }
+    push_number(text, ", lines ", tally.first)?;
+    push_number(text, " to ", tally.last)
 }
 
 /// That COMPLETION wasn't peeked since this line, where frames came to a TX of its pair behind it.
@@ -114,4 +126,41 @@ pub(crate) fn push_start(text: &mut Vec<u8>, count: u64) -> Result<(), OutOfMemo
     }
     push_number(text, "frames with the program from the start: ", count)?;
     push_word(text, "\n")
+}
+
+/// How many frames are on TX of a socket with no wake behind them, and their lines, where the last look behind them says that one is
+/// needed, or there is none.
+pub(crate) fn push_unwoken(
+    text: &mut Vec<u8>,
+    socket: u32,
+    wake: Wake,
+    tally: Tally,
+) -> Result<(), OutOfMemory>
+    ensures { OnOk result (text.new.items ≡ text.old.items ++ unwoken socket wake tally) }
+{
+    if is_served(wake, tally) {
+        return Ok(());
+    }
+    push_ring(text, Ring::Tx(socket))?;
+    push_number(text, ": frames with no wake behind them: ", tally.count)?;
+    push_lines(text, tally)?;
+    push_look(text, tally.last, wake)
+}
+
+/// Whether there is no such frame, or the last look behind them says that no wake is needed.
+fn is_served(wake: Wake, tally: Tally) -> bool
+    ensures { result ≡ served wake tally }
+{
+    tally.count == 0 || (wake.looked > tally.last && !wake.needed)
+}
+
+/// The look behind this line, or that there is none.
+fn push_look(text: &mut Vec<u8>, last: u64, wake: Wake) -> Result<(), OutOfMemory>
+    ensures { OnOk result (text.new.items ≡ text.old.items ++ look_part last wake) }
+{
+    if wake.looked <= last {
+        return push_word(text, ", and no look behind the last\n");
+    }
+    push_number(text, ", and the look of line ", wake.looked)?;
+    push_word(text, " says that one is needed\n")
 }
