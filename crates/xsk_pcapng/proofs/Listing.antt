@@ -1,8 +1,7 @@
 -- The packets of one port among those that were found.
-use Rattle.std.proofs.Common.{◌≡◌, ℕ, ◌+◌, List, [], ◌∷◌, drop, map, Some, true, refl, sym, ap, ◌∙◌, Vec, Global, arith}
-use Rattle.std.specs.Prelude.{Result, Ok, Err, IfOk, slice_get, eqb}
+use Rattle.std.proofs.Common.{◌≡◌, ℕ, ◌+◌, List, [], ◌∷◌, drop, map, Some, true, refl, ap, ◌∙◌, arith}
+use Rattle.std.specs.Prelude.{slice_get, eqb}
 use Rattle.std.proofs.lemmas.Bool.{ne_eqb}
-use Rattle.xsk_umem.specs.PacketList.{PacketList}
 use Rattle.xsk_umem.specs.Span.{at_span}
 use Rattle.xsk_umem.proofs.Going.{first_left}
 use Rattle.xsk_pcapng.specs.declared.reading.Found.{Found}
@@ -14,17 +13,6 @@ use Rattle.xsk_pcapng.specs.Written.{bare, packets_of}
 pub packets_of-bare : (lists : List (List (List ℕ))) → packets_of (map bare lists) ≡ lists
 packets_of-bare [] = refl
 packets_of-bare (list ∷ lists) = ap (λ (ls : List (List (List ℕ))). list ∷ ls) (packets_of-bare lists)
-
--- and lists that are bare have the packets of which they were made
-pub are_packets : {E : Type 0} (result : Result (Vec PacketList Global) E) (all : List (List (List ℕ))) → IfOk result (λ lists. lists.items ≡ map bare all)
-    → IfOk result (λ lists. packets_of lists.items ≡ all)
-are_packets (Ok lists) all are = ap packets_of are ∙ packets_of-bare all
-are_packets (Err e) all are = tt
-
-pub are_bare : {E : Type 0} (result : Result (Vec PacketList Global) E) (all : List (List (List ℕ))) → IfOk result (λ lists. lists.items ≡ map bare all)
-    → IfOk result (λ lists. lists.items ≡ map bare (packets_of lists.items))
-are_bare (Ok lists) all are = are ∙ ap (map bare) (sym (ap packets_of are ∙ packets_of-bare all))
-are_bare (Err e) all are = tt
 
 -- the packets of a port, of what was found from place i on
 abbrev pub packets_from : List ℕ → List Found → ℕ → ℕ → List (List ℕ)

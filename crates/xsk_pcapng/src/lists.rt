@@ -13,10 +13,6 @@ use std::alloc::Global;
 use std::sync::Arc;
 use xsk_umem::{OutOfMemory, PacketList, Span};
 
-/// The most bytes of a file of which packets are copied. Lists that share a text each take room for a copy of it, which in pages of
-/// 2 MB takes as much at its ends as the copies of such a file do.
-const MOST_COPIED: usize = 8_388_608;
-
 /// How much the packets of one interface take.
 #[derive(Clone, Copy)]
 struct Room {
@@ -41,8 +37,8 @@ pub fn lists_of(
     Ok(lists)
 }
 
-/// The lists of so many ports over the bytes, which come back where memory can't be had. Those of a large file share them as their
-/// text. Of a small file the last list has them, and the others copies of their packets.
+/// The lists of so many ports, which share the bytes as their text. Where memory can't be had the bytes come back: room is taken
+/// for a copy of them, before they are shared.
 pub fn lists_in(
     alloc: Global,
     bytes: Vec<u8>,
@@ -53,80 +49,6 @@ pub fn lists_in(
     requires apart { AreFrom 0 (spans_in found.now) }
     ensures packets { IfOk result (λ lists. packets_of lists.items ≡ lists_by_port ports (map (arrival_in bytes.items) found.now)) }
     ensures bare { IfOk result (λ lists. lists.items ≡ map bare (packets_of lists.items)) }
-    ensures back { IfErr result (λ back. back.items ≡ bytes.items) }
-{
-    if ports == 0 || bytes.len() > MOST_COPIED {
-        return lists_sharing(alloc, bytes, found, ports);
-    }
-    lists_beside(alloc, bytes, found, ports)
-}
-
-/// The lists of so many ports, of which the last has the bytes as its text, and the others copies of their packets.
-fn lists_beside(
-    alloc: Global,
-    bytes: Vec<u8>,
-    found: &[Found],
-    ports: u32,
-) -> Result<Vec<PacketList>, Vec<u8>>
-    requires some { 1 ≤ ports }
-    requires within { All (IsFoundIn bytes.items) found.now }
-    requires apart { AreFrom 0 (spans_in found.now) }
-    ensures lists { IfOk result (λ lists. lists.items ≡ map bare (lists_by_port ports (map (arrival_in bytes.items) found.now))) }
-    ensures back { IfErr result (λ back. back.items ≡ bytes.items) }
-{
-    let last = ports - 1;
-    let Ok(spans) = spans_of(alloc, found, last) else {
-        return Err(bytes);
-    };
-    let Ok(copies) = copies_of(alloc, bytes.as_slice(), found, last) else {
-        return Err(bytes);
-    };
-    let mut lists = copies;
-    if lists.reserve(1).is_err() {
-        return Err(bytes);
-    }
-    lists.push_reserved(PacketList::of_spans(bytes, spans));
-    Ok(lists)
-}
-
-/// The lists of so many ports, with copies of their packets and no room for others.
-fn copies_of(
-    alloc: Global,
-    bytes: &[u8],
-    found: &[Found],
-    ports: u32,
-) -> Result<Vec<PacketList>, OutOfMemory>
-    requires { All (IsFoundIn bytes.now) found.now }
-    ensures { IfOk result (λ lists. lists.items ≡ map bare (lists_by_port ports (map (arrival_in bytes.now) found.now))) }
-{
-    let mut lists = Vec::new(alloc);
-    for port in 0..ports {
-        let list = list_of(alloc, bytes, found, port)?;
-        lists.push(without_room(list))?;
-    }
-    Ok(lists)
-}
-
-/// The list without the room for further packets, and without gaps.
-fn without_room(list: PacketList) -> PacketList
-    ensures { result ≡ bare list.packets }
-{
-    let _count = list.len();
-    let parts = list.into_parts();
-    PacketList::of_spans(parts.text, parts.spans)
-}
-
-/// The lists of so many ports, which share the bytes as their text. Where memory can't be had the bytes come back: room is taken
-/// for a copy of them, before they are shared.
-fn lists_sharing(
-    alloc: Global,
-    bytes: Vec<u8>,
-    found: &[Found],
-    ports: u32,
-) -> Result<Vec<PacketList>, Vec<u8>>
-    requires within { All (IsFoundIn bytes.items) found.now }
-    requires apart { AreFrom 0 (spans_in found.now) }
-    ensures lists { IfOk result (λ lists. lists.items ≡ map bare (lists_by_port ports (map (arrival_in bytes.items) found.now))) }
     ensures back { IfErr result (λ back. back.items ≡ bytes.items) }
 {
     let Ok(room) = Vec::with_capacity(alloc, bytes.len()) else {

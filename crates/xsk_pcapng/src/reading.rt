@@ -361,8 +361,8 @@ pub fn read(alloc: Global, bytes: &[u8], ports: u32) -> Result<Vec<PacketList>, 
     Ok(lists)
 }
 
-/// Reads a file as [`read`] does, and keeps its bytes. Of a file of more than 8 MB the lists share them as their text, and no packet is
-/// copied. Of a smaller one the last list has them, and the others copies of their packets. Where it isn't read the bytes come back.
+/// Reads a file as [`read`] does. The lists share the bytes as their text, in which the packets stand as spans: none is copied.
+/// Where it isn't read the bytes come back.
 pub fn take(alloc: Global, bytes: Vec<u8>, ports: u32) -> Result<Vec<PacketList>, TakeRefused>
     ensures bare { IfOk result (λ lists. lists.items ≡ map bare (packets_of lists.items)) }
     ensures found { IfOk result (λ lists. IsPcapng ports bytes.items (packets_of lists.items)) }
