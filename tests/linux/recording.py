@@ -21,7 +21,7 @@ PACKETS = 400
 MISTAKES = {1: "frame", 2: "frame", 3: None, 4: "places", 5: "release", 6: None, 7: "frame", 8: None, 9: None, 10: None}
 # How a line begins that is told of some that are possible, and how none does.
 HINTS = {3: ("comp.0: not peeked since line 0, ", "fill.0: frames"), 8: ("tx.0: invalid descriptors (across the end of a chunk): ", "tx.0: frames"),
-         9: ("fill.0: no frame on it from line ", "fill.0: frames"), 10: ("tx.0: frames on it at the end: ", "comp.")}
+         9: ("fill.0: no frame on it from line ", "fill.0: frames"), 10: ("tx.0: frames with no wake behind them: ", "comp.")}
 
 
 def built():

@@ -3,7 +3,7 @@
 
 from collections import Counter
 
-from recording import GRANTED, Peek, Reserve, Ring, Submit
+from recording import GRANTED, Look, Peek, Reserve, Ring, Submit
 
 OUTSIDE, WITHIN = "addresses outside of the UMEM", "addresses that aren't the first of a chunk"
 EMPTY, CROSSING, OPTIONS = (f"invalid descriptors ({what})" for what in ("length 0", "across the end of a chunk", "unknown options"))
@@ -26,11 +26,20 @@ def oddity(setting, ring, entry):
 
 
 class Hints:
-    """The lines at which something odd was done on FILL and TX, the last line that peeks each COMPLETION, 0 being the start, and of FILL
-    which frames are on it, and the lines at which the last of them went."""
+    """The lines at which something odd was done on FILL and TX, the last line that peeks each COMPLETION, 0 being the start, of FILL
+    which frames are on it, and the lines at which the last of them went; and by ring the line of the last wake, and of the last look
+    with its flag."""
 
     def __init__(self):
         self.odd, self.peeked, self.filled, self.dried, self.count = {}, {}, {}, {}, Counter()
+        self.kicked, self.looked = {}, {}
+
+    def woken(self, wakeup, line):
+        """A look or a wake of this line."""
+        if isinstance(wakeup, Look):
+            self.looked[wakeup.ring] = line, wakeup.flag
+        else:
+            self.kicked[wakeup.ring] = line
 
     def note(self, setting, call, line):
         """A call of this line, which is possible."""
@@ -77,6 +86,8 @@ class Hints:
             yield from tallied(ring, "times that no frame was left on it", self.dried.get(ring))
             if ring in self.dried and not self.count[ring]:
                 yield f"{ring}: no frame on it from line {self.dried[ring][-1]} to the end"
+        for ring in (Ring("tx", number) for number in range(len(setting.sockets))):
+            yield from self._unwoken(since, ring)
 
     def _made(self, judge, since, ring):
         """Of FILL or TX."""
@@ -90,6 +101,18 @@ class Hints:
         last, peeked = max(since.get(("given", ring), [0])), self.peeked.get(completion, 0)
         if peeked < last:
             yield f"{completion}: not peeked since line {peeked}, and frames were submitted on {ring} up to line {last}"
+
+
+    def _unwoken(self, since, ring):
+        """Of TX with frames that came behind its last wake, but where the last look behind them says that none is needed."""
+        lines = [line for line in since.get(("given", ring), ()) if line > self.kicked.get(ring, 0)]
+        if not lines:
+            return
+        looked, needed = self.looked.get(ring, (0, False))
+        if looked < max(lines):
+            yield told_of(ring, "frames with no wake behind them", lines) + ", and no look behind the last"
+        elif needed:
+            yield told_of(ring, "frames with no wake behind them", lines) + f", and the look of line {looked} says that one is needed"
 
 
 def shown(judge, since, ring):
@@ -108,4 +131,10 @@ def counted(ring, what, count):
 def tallied(ring, what, lines):
     """How many lines, the first and the last, where there is one."""
     if lines:
-        yield f"{ring}: {what}: {len(lines)}, lines {min(lines)} to {max(lines)}"
+        yield told_of(ring, what, lines)
+
+
+def told_of(ring, what, lines):
+    """Some lines: how many, the first and the last."""
+    first, last = min(lines), max(lines)
+    return f"{ring}: {what}: {len(lines)}, " + (f"line {first}" if first == last else f"lines {first} to {last}")

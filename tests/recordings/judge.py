@@ -13,7 +13,7 @@ from dataclasses import dataclass
 from typing import List, Optional, Tuple
 
 from hints import Hints
-from recording import GRANTED, REFUSED, Cancel, Free, Malformed, Reader, Reserve, Ring, Submit, lines_of
+from recording import GRANTED, REFUSED, Cancel, Free, Kick, Look, Malformed, Reader, Reserve, Ring, Submit, lines_of
 
 PROGRAM, KERNEL = "the program broke a rule", "no kernel answers so"
 NO_KERNEL = (b"a call isn't in the recording, an entry was changed after it was submitted, something wrote over the ring, or the kernel is "
@@ -287,7 +287,9 @@ def verdict(text) -> Verdict:
             if reader.setting.fault():
                 return Verdict(f"no setting {number} {reader.setting.fault()}", 15)
             judge = Judge(reader.setting)
-        if call:
+        if isinstance(call, (Look, Kick)):
+            hints.woken(call, number)
+        elif call:
             judge.line = number
             try:
                 judge.step(call)

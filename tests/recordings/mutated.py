@@ -3,7 +3,8 @@
 from dataclasses import replace
 
 from judge import Judge
-from recording import GRANTED, REFUSED, RESERVED, SWITCHES, Cancel, Entry, Free, Peek, Release, Reserve, Setting, Submit, written
+from recording import (GRANTED, REFUSED, RESERVED, SWITCHES, Cancel, Entry, Free, Kick, Look, Peek, Release, Reserve, Ring, Setting, Submit,
+                       written)
 
 TELLING = (Submit, Peek, Cancel)  # the calls that are changed most
 EDGES = [0, 1, 2**16, 2**31, 2**32 - 1, 2**32, 2**63, 2**64 - 1, 2**64, 10**20]  # numbers of which some have to be refused
@@ -154,6 +155,16 @@ def other(rnd, made_for, call):
     return replace(call, entries=tuple(entries))
 
 
+def wakened(rnd, made_for, calls):
+    """The same calls with looks and wakes between them."""
+    often = rnd.choice((0, 0.2, 0.5))
+    for call in calls:
+        yield call
+        while rnd.random() < often:
+            ring = Ring(rnd.choice(("tx", "tx", "tx", "fill", "rx")), rnd.randint(0, len(made_for.sockets)))
+            yield Look(ring, rnd.random() < 0.7) if rnd.random() < 0.6 else Kick(ring)
+
+
 def broken(rnd, text):
     """The text with some bytes changed."""
     text, at, kind = bytearray(text), rnd.randrange(len(text)), rnd.random()
@@ -186,8 +197,7 @@ def recording(rnd):
     """The bytes of a random recording: as it was made, with calls changed, or with bytes changed."""
     made_for, kind = setting(rnd), rnd.random()
     calls = Walk(rnd, made_for).go(rnd.randint(1, 80))
-    if kind < 0.15:
-        return written(made_for, calls)
-    if kind < 0.7:
-        return written(made_for, changed(rnd, made_for, calls))
-    return broken(rnd, written(made_for, calls))
+    if 0.15 <= kind < 0.7:
+        calls = changed(rnd, made_for, calls)
+    text = written(made_for, wakened(rnd, made_for, calls))
+    return text if kind < 0.7 else broken(rnd, text)

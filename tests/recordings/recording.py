@@ -112,7 +112,29 @@ class Cancel:
         return f"cancel {self.ring} {self.count} -> cancelled"
 
 
+@dataclass(frozen=True)
+class Look:
+    """xsk_ring_prod__needs_wakeup, and the flag that it told."""
+
+    ring: Ring
+    flag: bool
+
+    def __str__(self):
+        return f"look {self.ring} -> {int(self.flag)}"
+
+
+@dataclass(frozen=True)
+class Kick:
+    """A wake of the kernel for a ring."""
+
+    ring: Ring
+
+    def __str__(self):
+        return f"kick {self.ring} -> 0"
+
+
 Call = Union[Reserve, Free, Submit, Peek, Release, Cancel]
+Wakeup = Union[Look, Kick]  # any kernel may answer so
 
 
 class Socket(NamedTuple):
@@ -223,7 +245,7 @@ FORMS = [(name, re.compile(form + rb"\n", re.DOTALL)) for name, form in (
     ("peek", b"peek " + RING + b" " + NUMBER + b" -> (?:empty|items" + ENTRIES + b")"),
     ("release", b"release " + RING + b" " + NUMBER + b" -> released"),
     ("cancel", b"cancel " + RING + b" " + NUMBER + b" -> cancelled"),
-    ("look", b"look " + RING + b" -> [01]"),
+    ("look", b"look " + RING + b" -> ([01])"),
     ("kick", b"kick " + RING + b" -> 0"),
 )]
 UMEM = re.compile(b"umem " + NUMBER + b" " + NUMBER + b" " + NUMBER + rb"\n")
@@ -246,8 +268,8 @@ def entries_of(words):
     return tuple(Entry(number(address, 64), number(length), number(options)) for address, length, options in fields)
 
 
-def call_of(line) -> Tuple[int, Optional[Call]]:
-    """The time of a line and its call, or None in its place for a look or a wake."""
+def call_of(line) -> Tuple[int, Union[Call, Wakeup]]:
+    """The time of a line and its call, look or wake."""
     stamp = STAMP.match(line)
     if not stamp:
         raise Malformed
@@ -264,7 +286,7 @@ def call_named(name, ring, words):
     if name == "submit":
         return Submit(ring, entries_of(words[0]))
     if name in ("look", "kick"):
-        return None
+        return Look(ring, words[0] == b"1") if words else Kick(ring)
     count = number(words[0])
     if name == "reserve":
         return Reserve(ring, count, REFUSED if words[1] else number(words[2]) if words[2] else GRANTED)
@@ -283,8 +305,8 @@ class Reader:
         self.is_begun = False
         self._next, self._umem, self._pairs, self._sockets, self._time = "title", None, [], [], 0
 
-    def read(self, line) -> Optional[Call]:
-        """Reads the next line: the call that it tells, or None."""
+    def read(self, line) -> Union[Call, Wakeup, None]:
+        """Reads the next line: the call, look or wake that it tells, or None."""
         if len(line) > MOST_BYTES or line[-1:] != b"\n":
             raise Malformed
         if self.is_begun:

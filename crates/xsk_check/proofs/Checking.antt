@@ -19,10 +19,11 @@ goes-told r line calls P Q each goes = record { read = goes.read; is = goes.is; 
 
 told-only : (r : Read) (xs : List ℕ) (event : Event) (P : Read → Type 0) → Tells r xs event P → HasTold r xs event
 told-only r xs an_event.Begun P told = tt
-told-only r xs an_event.Passed P told = goes-told r xs r.calls _ _ (λ n rest. (tt, rest.1)) told
-told-only r xs (an_event.Setting s) P told = goes-told r xs r.calls _ _ (λ n rest. (tt, rest.1, rest.2)) told
+told-only r xs an_event.Passed P told = goes-told r xs r.calls _ _ (λ n rest. (tt, rest.1, rest.2)) told
+told-only r xs (an_event.Setting s) P told = goes-told r xs r.calls _ _ (λ n rest. (tt, rest.1, rest.2, rest.3)) told
 told-only r xs (an_event.NoSetting error) P told = goes-told r xs r.calls _ _ (λ n rest. (tt, rest.1, rest.2)) told
-told-only r xs (an_event.Call call) P told = goes-told r xs (record { line = r.lines + 1; call = call } ∷ r.calls) _ _ (λ n rest. tt) told
+told-only r xs (an_event.Call call) P told = goes-told r xs (record { line = r.lines + 1; call = call } ∷ r.calls) _ _ (λ n rest. (tt, rest.1)) told
+told-only r xs (an_event.Aside wakeup) P told = goes-told r xs r.calls _ _ (λ n rest. (tt, rest.1, rest.2)) told
 told-only r xs an_event.Fault P told = told
 
 -- the line that an event tells
@@ -34,6 +35,8 @@ some-told old new text r piece (an_event.Setting s) rest next = (old.begun ++ ne
 some-told old new text r piece (an_event.NoSetting error) rest next =
     (old.begun ++ next.used, told-only r (old.begun ++ next.used) (an_event.NoSetting error) _ next.told)
 some-told old new text r piece (an_event.Call call) rest next = (old.begun ++ next.used, told-only r (old.begun ++ next.used) (an_event.Call call) _ next.told)
+some-told old new text r piece (an_event.Aside wakeup) rest next =
+    (old.begun ++ next.used, told-only r (old.begun ++ next.used) (an_event.Aside wakeup) _ next.told)
 some-told old new text r piece an_event.Fault rest next = ((next []).line, (next []).fault)
 
 -- the line stands behind those that were read
@@ -98,7 +101,7 @@ stepped old new text piece rest (an_event.Call call) None stands next hears = (
   next.piece_is,
   record {
     read = next.told.read;
-    reads = next.told.rest;
+    reads = next.told.rest.0;
     heard = hears (old.reading.begun ++ next.used) (told-only stands.read (old.reading.begun ++ next.used) (an_event.Call call) _ next.told) next.told.read next.told.is;
   },
 )
@@ -107,6 +110,17 @@ stepped old new text piece rest (an_event.Call call) (Some finding) stands next 
     (lines_of (rest ++ later))
     (line-begins old.reading text stands.read piece next.used rest later stands.reads next.piece_is next.line
     (heard-sound stands.read.header.next stands.read old.court stands.heard.court))
+stepped old new text piece rest (an_event.Aside wakeup) None stands next hears = (
+  next.used,
+  next.piece_is,
+  record {
+    read = next.told.read;
+    reads = next.told.rest.0;
+    heard = hears (old.reading.begun ++ next.used) (told-only stands.read (old.reading.begun ++ next.used) (an_event.Aside wakeup) _ next.told) next.told.read next.told.is;
+  },
+)
+stepped old new text piece rest (an_event.Aside wakeup) (Some finding) stands next hears =
+    absurd (hears (old.reading.begun ++ next.used) (told-only stands.read (old.reading.begun ++ next.used) (an_event.Aside wakeup) _ next.told))
 stepped old new text piece rest an_event.Fault None stands next hears = absurd (hears (next []).line (next []).fault)
 stepped old new text piece rest an_event.Fault (Some finding) stands next hears = λ later.
     let fault = next later in

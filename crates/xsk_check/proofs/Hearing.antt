@@ -15,14 +15,15 @@ use Rattle.xsk_judge.specs.declared.why.Why.{Why}
 use Rattle.xsk_judge.specs.declared.why.Why.TheVariants.{Rule, Kernel, TooMany}
 use Rattle.xsk_lines.specs.Lines.{lines_of}
 use Rattle.xsk_recording.specs.Header.{Header}
-use Rattle.xsk_recording.specs.Text.{Numbered, Read, line_after}
+use Rattle.xsk_recording.specs.Text.{Beside, Numbered, Read, line_after}
 use Rattle.xsk_recording.specs.Feeding.{is_calls}
 use Rattle.xsk_recording.specs.Verdict.{IsSound, calls_of}
 use Rattle.xsk_recording.specs.declared.head.Next.{Next}
 use Rattle.xsk_recording.specs.declared.head.Next.TheVariants.{Title, Umem, Pairs, Sockets, Mark, Calls}
 use Rattle.xsk_recording.specs.declared.reading.Event.TheVariants as an_event
+use Rattle.xsk_recording.specs.declared.wakeup.Wakeup.{Wakeup}
 use Rattle.xsk_recording.specs.declared.verdict.Verdict.TheVariants as a_verdict
-use Rattle.xsk_check.specs.Checking.{Checked, lines_of_calls, IsOpen, Follows, Judges, IsHeard, Heard, HasTold, IsFoundAt}
+use Rattle.xsk_check.specs.Checking.{Checked, lines_of_calls, IsOpen, Follows, Judges, IsBare, IsHeard, Heard, HasTold, IsFoundAt}
 use Rattle.xsk_recording.specs.Counts.{IsCounted}
 use Rattle.xsk_check.specs.declared.check.Court.{Court}
 use Rattle.xsk_recording.proofs.Small.{IsSmallCall}
@@ -51,9 +52,9 @@ heard-sound Sockets r court heard = tt
 heard-sound Mark r court heard = judges-sound r court heard.0
 heard-sound Calls r court heard = judges-sound r court heard
 
--- ---- a line of the header, a look or a wake
+-- ---- a line of the header
 
-early-heard : (next : Next) (n : Read) (court : Option Court) → is_calls next ≡ false → (next ≡ Mark → ⊥) → court ≡ None → n.calls ≡ [] → IsHeard next n court
+early-heard : (next : Next) (n : Read) (court : Option Court) → is_calls next ≡ false → (next ≡ Mark → ⊥) → court ≡ None → IsBare n → IsHeard next n court
 early-heard Title n court early other none calls = (none, calls)
 early-heard Umem n court early other none calls = (none, calls)
 early-heard Pairs n court early other none calls = (none, calls)
@@ -61,70 +62,89 @@ early-heard Sockets n court early other none calls = (none, calls)
 early-heard Mark n court early other none calls = absurd (other refl)
 early-heard Calls n court early other none calls = cc early
 
--- the judge is the same where the setting and the calls are
-judges-same : (r n : Read) (court : Option Court) → n.header.setting ≡ r.header.setting → n.calls ≡ r.calls → Judges r court → Judges n court
-judges-same r n None setting calls judges = judges
-judges-same r n (Some court) setting calls judges = (
-  judges.0 ∙ sym setting,
-  judges.1,
-  subst (λ (cs : List Numbered). Follows court (lines_of_calls cs)) (sym calls) judges.2,
-)
+-- the calls, looks and wakes are the same
+record IsSame (r n : Read) : Type 0 where
+  pub calls : n.calls ≡ r.calls
+  pub asides : n.asides ≡ r.asides
+
+followed : (r n : Read) (court : Court) → IsSame r n → Follows court (lines_of_calls r.calls) r.asides → Follows court (lines_of_calls n.calls) n.asides
+followed r n court same follows =
+    subst (λ (beside : List Beside). Follows court (lines_of_calls n.calls) beside) (sym same.asides)
+    (subst (λ (cs : List Numbered). Follows court (lines_of_calls cs) r.asides) (sym same.calls) follows)
+
+still-bare : (r n : Read) → IsSame r n → IsBare r → IsBare n
+still-bare r n same bare = record { calls = same.calls ∙ bare.calls; asides = same.asides ∙ bare.asides }
+
+-- the judge is the same where the setting is
+judges-same : (r n : Read) (court : Option Court) → n.header.setting ≡ r.header.setting → IsSame r n → Judges r court → Judges n court
+judges-same r n None setting same judges = judges
+judges-same r n (Some court) setting same judges = (judges.0 ∙ sym setting, judges.1, followed r n court same judges.2)
 
 calls-heard : (n : Read) (court : Option Court) → n.header.next ≡ Calls → Judges n court → IsHeard n.header.next n court
 calls-heard n court calls judges = subst (λ (k : Next). IsHeard k n court) (sym calls) judges
 
-passed-heard : (next : Next) (r n : Read) (court : Option Court) → r.header.next ≡ next → Leads next r n → n.calls ≡ r.calls → (n.header.next ≡ Mark → ⊥)
+passed-heard : (next : Next) (r n : Read) (court : Option Court) → r.header.next ≡ next → Leads next r n → IsSame r n → (n.header.next ≡ Mark → ⊥)
     → IsHeard next r court → IsHeard n.header.next n court
-passed-heard Title r n court is leads calls other heard = early-heard n.header.next n court leads.0 other heard.0 (calls ∙ heard.1)
-passed-heard Umem r n court is leads calls other heard = early-heard n.header.next n court leads.0 other heard.0 (calls ∙ heard.1)
-passed-heard Pairs r n court is leads calls other heard = early-heard n.header.next n court leads.0 other heard.0 (calls ∙ heard.1)
-passed-heard Sockets r n court is leads calls other heard = early-heard n.header.next n court leads.0 other heard.0 (calls ∙ heard.1)
-passed-heard Mark r n court is leads calls other heard =
-    calls-heard n court (ap (λ (h : Header). h.next) leads.0) (judges-same r n court (ap (λ (h : Header). h.setting) leads.0) calls heard.0)
-passed-heard Calls r n court is leads calls other heard =
-    calls-heard n court (ap (λ (h : Header). h.next) leads ∙ is) (judges-same r n court (ap (λ (h : Header). h.setting) leads) calls heard)
+passed-heard Title r n court is leads same other heard = early-heard n.header.next n court leads.0 other heard.0 (still-bare r n same heard.1)
+passed-heard Umem r n court is leads same other heard = early-heard n.header.next n court leads.0 other heard.0 (still-bare r n same heard.1)
+passed-heard Pairs r n court is leads same other heard = early-heard n.header.next n court leads.0 other heard.0 (still-bare r n same heard.1)
+passed-heard Sockets r n court is leads same other heard = early-heard n.header.next n court leads.0 other heard.0 (still-bare r n same heard.1)
+passed-heard Mark r n court is leads same other heard =
+    calls-heard n court (ap (λ (h : Header). h.next) leads.0) (judges-same r n court (ap (λ (h : Header). h.setting) leads.0) same heard.0)
+passed-heard Calls r n court is leads same other heard =
+    calls-heard n court (ap (λ (h : Header). h.next) leads ∙ is) (judges-same r n court (ap (λ (h : Header). h.setting) leads) same heard)
 
 -- the same line leaves the same
 pub same-next : (r n m : Read) (xs : List ℕ) → line_after r xs ≡ Some n → line_after r xs ≡ Some m → n ≡ m
 same-next r n m xs one two = some-value n m (sym one ∙ two)
 
+same-told : (r m n : Read) → m ≡ n → m.calls ≡ r.calls → m.asides ≡ r.asides → IsSame r n
+same-told r m n same calls asides = record {
+  calls = ap (λ (x : Read). x.calls) (sym same) ∙ calls;
+  asides = ap (λ (x : Read). x.asides) (sym same) ∙ asides;
+}
+
 pub passed : (old new : Checked) (r n : Read) (xs : List ℕ) → new.court ≡ old.court → new.calls ≡ old.calls → Heard old r → HasTold r xs an_event.Passed
     → line_after r xs ≡ Some n → Heard new n
 passed old new r n xs court calls heard told after =
     let same = same-next r told.read n xs told.is after in
-    let as_before : n.calls ≡ r.calls = ap (λ (x : Read). x.calls) (sym same) ∙ told.calls_are in
+    let as_before : IsSame r n = same-told r told.read n same told.calls_are told.rest.2 in
     record {
       court =
           subst (IsHeard n.header.next n) (sym court)
           (passed-heard r.header.next r n old.court refl (line-step r n xs after).leads as_before
           (λ mark. told.rest.1 (ap (λ (x : Read). x.header.next) same ∙ mark)) heard.court);
-      calls = calls ∙ heard.calls ∙ ap (λ (l : List Numbered). length l) (sym as_before);
+      calls = calls ∙ heard.calls ∙ ap (λ (l : List Numbered). length l) (sym as_before.calls);
     }
 
 -- ---- the setting is told
 
-early-calls : (next : Next) (r n : Read) (court : Option Court) → r.header.next ≡ next → Leads next r n → n.header.next ≡ Mark → IsHeard next r court → r.calls ≡ []
-early-calls Title r n court is leads mark heard = heard.1
-early-calls Umem r n court is leads mark heard = heard.1
-early-calls Pairs r n court is leads mark heard = heard.1
-early-calls Sockets r n court is leads mark heard = heard.1
-early-calls Mark r n court is leads mark heard = heard.1
-early-calls Calls r n court is leads mark heard = cc (sym mark ∙ ap (λ (h : Header). h.next) leads ∙ is)
+early-bare : (next : Next) (r n : Read) (court : Option Court) → r.header.next ≡ next → Leads next r n → n.header.next ≡ Mark → IsHeard next r court → IsBare r
+early-bare Title r n court is leads mark heard = heard.1
+early-bare Umem r n court is leads mark heard = heard.1
+early-bare Pairs r n court is leads mark heard = heard.1
+early-bare Sockets r n court is leads mark heard = heard.1
+early-bare Mark r n court is leads mark heard = heard.1
+early-bare Calls r n court is leads mark heard = cc (sym mark ∙ ap (λ (h : Header). h.next) leads ∙ is)
+
+bare-followed : (n : Read) (court : Court) → IsBare n → Follows court [] [] → Follows court (lines_of_calls n.calls) n.asides
+bare-followed n court bare follows =
+    subst (λ (beside : List Beside). Follows court (lines_of_calls n.calls) beside) (sym bare.asides)
+    (subst (λ (cs : List Numbered). Follows court (lines_of_calls cs) []) (sym bare.calls) follows)
 
 pub told-setting : (old new : Checked) (court : Court) (r n : Read) (xs : List ℕ) → new.court ≡ Some court → new.calls ≡ old.calls
-    → IsOpen court → Follows court [] → Heard old r → HasTold r xs (an_event.Setting court.setting) → line_after r xs ≡ Some n → Heard new n
+    → IsOpen court → Follows court [] [] → Heard old r → HasTold r xs (an_event.Setting court.setting) → line_after r xs ≡ Some n → Heard new n
 told-setting old new court r n xs is calls opens follows heard told after =
     let same = same-next r told.read n xs told.is after in
-    let as_before : n.calls ≡ r.calls = ap (λ (x : Read). x.calls) (sym same) ∙ told.calls_are in
+    let as_before : IsSame r n = same-told r told.read n same told.calls_are told.rest.3 in
     let mark : n.header.next ≡ Mark = ap (λ (x : Read). x.header.next) (sym same) ∙ told.rest.1 in
     let setting : n.header.setting ≡ court.setting = ap (λ (x : Read). x.header.setting) (sym same) ∙ told.rest.2 in
-    let none : n.calls ≡ [] = as_before ∙ early-calls r.header.next r n old.court refl (line-step r n xs after).leads mark heard.court in
+    let none : IsBare n = still-bare r n as_before (early-bare r.header.next r n old.court refl (line-step r n xs after).leads mark heard.court) in
     record {
       court =
           subst (IsHeard n.header.next n) (sym is)
-          (subst (λ (k : Next). IsHeard k n (Some court)) (sym mark)
-          ((sym setting, opens, subst (λ (cs : List Numbered). Follows court (lines_of_calls cs)) (sym none) follows), none));
-      calls = calls ∙ heard.calls ∙ ap (λ (l : List Numbered). length l) (sym as_before);
+          (subst (λ (k : Next). IsHeard k n (Some court)) (sym mark) ((sym setting, opens, bare-followed n court none follows), none));
+      calls = calls ∙ heard.calls ∙ ap (λ (l : List Numbered). length l) (sym as_before.calls);
     }
 
 -- ---- a call
@@ -154,24 +174,56 @@ told-judges checked r xs call heard told = judges-calls r checked.court (in-call
 
 pub called : (old new : Checked) (court after : Court) (r n : Read) (xs : List ℕ) (line : ℕ) (call : Call) → old.court ≡ Some court → new.court ≡ Some after
     → new.calls ≡ old.calls + 1 → after.setting ≡ court.setting → IsOpen after
-    → ((lines : List Line) → Follows court lines → Follows after (record { line = line; call = call } ∷ lines))
+    → ((lines : List Line) (asides : List Beside) → Follows court lines asides → Follows after (record { line = line; call = call } ∷ lines) asides)
     → line ≡ r.lines + 1 → Heard old r → HasTold r xs (an_event.Call call) → line_after r xs ≡ Some n → Heard new n
 called old new court after r n xs line call was is calls setting opens follows number heard told next =
     let same = same-next r told.read n xs told.is next in
     let header = same-header r n xs call told next in
     let judges : Judges r (Some court) = subst (Judges r) was (told-judges old r xs call heard told) in
     let told_calls : n.calls ≡ record { line = r.lines + 1; call = call } ∷ r.calls = ap (λ (x : Read). x.calls) (sym same) ∙ told.calls_are in
-    let followed : Follows after (record { line = r.lines + 1; call = call } ∷ lines_of_calls r.calls) =
-    subst (λ (k : ℕ). Follows after (record { line = k; call = call } ∷ lines_of_calls r.calls)) number (follows (lines_of_calls r.calls) judges.2) in
+    let told_asides : n.asides ≡ r.asides = ap (λ (x : Read). x.asides) (sym same) ∙ told.rest.1 in
+    let goes_on : Follows after (record { line = r.lines + 1; call = call } ∷ lines_of_calls r.calls) n.asides =
+    subst (λ (k : ℕ). Follows after (record { line = k; call = call } ∷ lines_of_calls r.calls) n.asides) number
+    (subst (λ (beside : List Beside). Follows after (record { line = line; call = call } ∷ lines_of_calls r.calls) beside) (sym told_asides)
+    (follows (lines_of_calls r.calls) r.asides judges.2)) in
     record {
       court =
           calls-heard n new.court (ap (λ (h : Header). h.next) header ∙ in-calls r xs call told)
           (subst (Judges n) (sym is) (
             setting ∙ judges.0 ∙ ap (λ (h : Header). h.setting) (sym header),
             opens,
-            subst (λ (cs : List Numbered). Follows after (lines_of_calls cs)) (sym told_calls) followed,
+            subst (λ (cs : List Numbered). Follows after (lines_of_calls cs) n.asides) (sym told_calls) goes_on,
           ));
       calls = calls ∙ ap (λ k. k + 1) heard.calls ∙ sym (ap (λ (l : List Numbered). length l) told_calls ∙ omega arith);
+    }
+
+-- ---- a look or a wake
+
+pub aside-judges : (checked : Checked) (r : Read) (xs : List ℕ) (wakeup : Wakeup) → Heard checked r → HasTold r xs (an_event.Aside wakeup) → Judges r checked.court
+aside-judges checked r xs wakeup heard told = judges-calls r checked.court told.rest.1 heard.court
+
+pub woken : (old new : Checked) (court after : Court) (r n : Read) (xs : List ℕ) (line : ℕ) (wakeup : Wakeup) → old.court ≡ Some court → new.court ≡ Some after
+    → new.calls ≡ old.calls → after.setting ≡ court.setting → (IsOpen court → IsOpen after)
+    → ((lines : List Line) (asides : List Beside) → Follows court lines asides → Follows after lines (record { line = line; wakeup = wakeup } ∷ asides))
+    → line ≡ r.lines + 1 → Heard old r → HasTold r xs (an_event.Aside wakeup) → line_after r xs ≡ Some n → Heard new n
+woken old new court after r n xs line wakeup was is calls setting opens follows number heard told next =
+    let same = same-next r told.read n xs told.is next in
+    let header : n.header ≡ r.header = subst (λ (k : Next). Leads k r n) told.rest.1 (line-step r n xs next).leads in
+    let judges : Judges r (Some court) = subst (Judges r) was (aside-judges old r xs wakeup heard told) in
+    let told_calls : n.calls ≡ r.calls = ap (λ (x : Read). x.calls) (sym same) ∙ told.calls_are in
+    let told_asides : n.asides ≡ record { line = r.lines + 1; wakeup = wakeup } ∷ r.asides = ap (λ (x : Read). x.asides) (sym same) ∙ told.rest.2 in
+    let goes_on : Follows after (lines_of_calls r.calls) (record { line = r.lines + 1; wakeup = wakeup } ∷ r.asides) =
+    subst (λ (k : ℕ). Follows after (lines_of_calls r.calls) (record { line = k; wakeup = wakeup } ∷ r.asides)) number (follows (lines_of_calls r.calls) r.asides judges.2) in
+    record {
+      court =
+          calls-heard n new.court (ap (λ (h : Header). h.next) header ∙ told.rest.1)
+          (subst (Judges n) (sym is) (
+            setting ∙ judges.0 ∙ ap (λ (h : Header). h.setting) (sym header),
+            opens judges.1,
+            subst (λ (cs : List Numbered). Follows after (lines_of_calls cs) n.asides) (sym told_calls)
+                (subst (λ (beside : List Beside). Follows after (lines_of_calls r.calls) beside) (sym told_asides) goes_on),
+          ));
+      calls = calls ∙ heard.calls ∙ ap (λ (l : List Numbered). length l) (sym told_calls);
     }
 
 -- ---- why a call isn't possible

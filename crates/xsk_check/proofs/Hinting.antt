@@ -99,7 +99,7 @@ judges-whole checked text calls stands is =
 -- ---- the hints
 
 hints-are : (checked : Checked) (court : Court) (text : List ℕ) (calls : ℕ) (stands : StandsFor checked text) → IsVerdict text (a_verdict.Possible calls)
-    → court.setting ≡ stands.read.header.setting → AreHints text (hints_on court.setting (lines_of_calls stands.read.calls))
+    → court.setting ≡ stands.read.header.setting → AreHints text (hints_on court.setting (lines_of_calls stands.read.calls) stands.read.asides)
 hints-are checked court text calls stands is setting =
     let r = stands.read in
     let sound = heard-sound r.header.next r checked.court stands.heard.court in
@@ -107,7 +107,7 @@ hints-are checked court text calls stands is setting =
       read = r;
       begins = begins-whole checked.reading text r stands.reads (none-begun checked.reading text r calls stands.reads sound is) sound;
       calls = header-whole checked.reading text r calls stands.reads sound is;
-      text_is = ap (λ (s : Setting). hints_on s (lines_of_calls r.calls)) setting;
+      text_is = ap (λ (s : Setting). hints_on s (lines_of_calls r.calls) r.asides) setting;
     }
 
 -- they were put behind a text
@@ -120,12 +120,13 @@ on-ok (Err e) P Q then is = tt
 
 pub hinted : {A E : Type 0} (checked : Checked) (court : Court) (answer : Result A E) (before behind text : List ℕ) (calls : ℕ) → checked.court ≡ Some court
     → (stands : StandsFor checked text) → IsVerdict text (a_verdict.Possible calls)
-    → (Follows court (lines_of_calls stands.read.calls) → OnOk answer (behind ≡ before ++ hints_on court.setting (lines_of_calls stands.read.calls)))
+    → (Follows court (lines_of_calls stands.read.calls) stands.read.asides
+    → OnOk answer (behind ≡ before ++ hints_on court.setting (lines_of_calls stands.read.calls) stands.read.asides))
     → OnOk answer (HasHints text before behind)
 hinted {A} {E} checked court answer before behind text calls here stands is told =
     let judges : Judges stands.read (Some court) = subst (Judges stands.read) here (judges-whole checked text calls stands is) in
-    on-ok answer (behind ≡ before ++ hints_on court.setting (lines_of_calls stands.read.calls)) (HasHints text before behind)
-    (λ put. (hints_on court.setting (lines_of_calls stands.read.calls), hints-are checked court text calls stands is judges.0, put))
+    on-ok answer (behind ≡ before ++ hints_on court.setting (lines_of_calls stands.read.calls) stands.read.asides) (HasHints text before behind)
+    (λ put. (hints_on court.setting (lines_of_calls stands.read.calls) stands.read.asides, hints-are checked court text calls stands is judges.0, put))
     (told judges.2)
 
 -- without a setting there are no calls

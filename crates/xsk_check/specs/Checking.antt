@@ -7,7 +7,8 @@ use Rattle.xsk_judge.specs.Reasons.{IsReasonOf}
 use Rattle.xsk_hints.specs.Noted.{IsSized, Notes}
 use Rattle.xsk_hints.specs.Fills.{Feeds, fills_text}
 use Rattle.xsk_hints.specs.Told.{hints_text}
-use Rattle.xsk_recording.specs.Text.{Numbered, Read, line_after}
+use Rattle.xsk_hints.specs.Wakes.{Wakens, wakes_text}
+use Rattle.xsk_recording.specs.Text.{Beside, Numbered, Read, line_after}
 use Rattle.xsk_recording.specs.Feeding.{Reader, StandsFor as StandsForText, Tells}
 use Rattle.xsk_recording.specs.Verdict.{Begins, IsVerdict}
 use Rattle.xsk_recording.specs.declared.head.Next.{Next}
@@ -48,28 +49,35 @@ pub record IsOpen (court : Court) : Type 0 where
   pub ready : IsReadyJudge court.setting court.judge
   pub sized : IsSized court.setting court.hints
   pub pairs : length court.fills ≡ length court.setting.pairs
+  pub sockets : length court.wakes ≡ length court.setting.sockets
 
--- the judge stands for these lines, and the hints are on them
-pub record Follows (court : Court) (lines : List Line) : Type 0 where
+-- the judge stands for these lines, and the hints are on them and on these looks and wakes
+pub record Follows (court : Court) (lines : List Line) (asides : List Beside) : Type 0 where
   pub stands : StandsForLines court.setting court.judge lines
   pub notes : Notes court.setting court.hints lines
   pub feeds : Feeds court.setting court.fills lines
+  pub wakens : Wakens court.wakes asides
 
-abbrev pub hints_on : Setting → List Line → List ℕ
-hints_on s lines = hints_text s lines ++ fills_text s lines
+abbrev pub hints_on : Setting → List Line → List Beside → List ℕ
+hints_on s lines asides = hints_text s lines ++ fills_text s lines ++ wakes_text s lines asides
 
--- they are those of the header's setting and of its calls
+-- they are those of the header's setting and of its calls, looks and wakes
 abbrev pub Judges : Read → Option Court → Type 0
 Judges r None = ⊥
-Judges r (Some court) = (court.setting ≡ r.header.setting) × IsOpen court × Follows court (lines_of_calls r.calls)
+Judges r (Some court) = (court.setting ≡ r.header.setting) × IsOpen court × Follows court (lines_of_calls r.calls) r.asides
+
+-- no call, look or wake was read
+pub record IsBare (r : Read) : Type 0 where
+  pub calls : r.calls ≡ []
+  pub asides : r.asides ≡ []
 
 -- there is one from the line of the kernel on
 abbrev pub IsHeard : Next → Read → Option Court → Type 0
-IsHeard Title r court = (court ≡ None) × (r.calls ≡ [])
-IsHeard Umem r court = (court ≡ None) × (r.calls ≡ [])
-IsHeard Pairs r court = (court ≡ None) × (r.calls ≡ [])
-IsHeard Sockets r court = (court ≡ None) × (r.calls ≡ [])
-IsHeard Mark r court = Judges r court × (r.calls ≡ [])
+IsHeard Title r court = (court ≡ None) × IsBare r
+IsHeard Umem r court = (court ≡ None) × IsBare r
+IsHeard Pairs r court = (court ≡ None) × IsBare r
+IsHeard Sockets r court = (court ≡ None) × IsBare r
+IsHeard Mark r court = Judges r court × IsBare r
 IsHeard Calls r court = Judges r court
 
 pub record Heard (checked : Checked) (r : Read) : Type 0 where
@@ -114,12 +122,12 @@ IsFound text finding = IsVerdict text finding.verdict × IsBlamed text finding.v
 
 -- ---- the end
 
--- the hints on a recording that is whole: on all its calls, each with the number of its line
+-- the hints on a recording that is whole: on all its calls, looks and wakes, each with the number of its line
 pub record AreHints (text hints : List ℕ) : Type 0 where
   pub read : Read
   pub begins : Begins text [] read
   pub calls : read.header.next ≡ Calls
-  pub text_is : hints ≡ hints_on read.header.setting (lines_of_calls read.calls)
+  pub text_is : hints ≡ hints_on read.header.setting (lines_of_calls read.calls) read.asides
 
 -- ---- pieces
 
@@ -142,6 +150,7 @@ HasTold r line an_event.Passed = Tells r line an_event.Passed (λ next. Unit {0}
 HasTold r line (an_event.Setting s) = Tells r line (an_event.Setting s) (λ next. Unit {0})
 HasTold r line (an_event.NoSetting error) = Tells r line (an_event.NoSetting error) (λ next. Unit {0})
 HasTold r line (an_event.Call call) = Tells r line (an_event.Call call) (λ next. Unit {0})
+HasTold r line (an_event.Aside wakeup) = Tells r line (an_event.Aside wakeup) (λ next. Unit {0})
 HasTold r line an_event.Fault = Tells r line an_event.Fault (λ next. Unit {0})
 
 -- what is found where the line stands behind those that were read
@@ -160,5 +169,7 @@ Hears new r line (an_event.NoSetting error) None = ⊥
 Hears new r line (an_event.NoSetting error) (Some finding) = IsFoundAt r line finding
 Hears new r line (an_event.Call call) None = (next : Read) → line_after r line ≡ Some next → Heard new next
 Hears new r line (an_event.Call call) (Some finding) = IsFoundAt r line finding
+Hears new r line (an_event.Aside wakeup) None = (next : Read) → line_after r line ≡ Some next → Heard new next
+Hears new r line (an_event.Aside wakeup) (Some finding) = ⊥
 Hears new r line an_event.Fault None = ⊥
 Hears new r line an_event.Fault (Some finding) = IsFoundAt r line finding

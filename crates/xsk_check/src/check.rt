@@ -1,6 +1,6 @@
 //! The check of a recording: it is read in pieces of any size, and each call is judged, and noted for the hints.
 ghost use Rattle.std.specs.Prelude.{◌≡◌, ◌≢◌, ◌+◌, ◌<◌, ◌++◌, ◌∷◌, [], ℕ, List, IfErr, IfOk, OnOk, None, Some, length};
-ghost use Rattle.xsk_recording.specs.Text.{Read};
+ghost use Rattle.xsk_recording.specs.Text.{Beside, Read};
 ghost use Rattle.xsk_recording.specs.Counts.{IsCounted};
 ghost use Rattle.xsk_recording.specs.Verdict.{IsVerdict};
 ghost use Rattle.xsk_judge.specs.Stands.{Line, IsWhy, StandsFor as StandsForLines};
@@ -10,9 +10,9 @@ ghost use Rattle.xsk_check.specs.Checking.{AreHints, Follows, Goes, HasTold, Hea
 use crate::finding::{Blame, Finding};
 use std::alloc::Global;
 use std::marker::Model;
-use xsk_hints::{Fills, Hints};
+use xsk_hints::{Fills, Hints, Wakes};
 use xsk_judge::{Judge, Why};
-use xsk_recording::{Event, Reading, Verdict};
+use xsk_recording::{Event, Reading, Verdict, Wakeup};
 use xsk_side::{Call, Setting};
 use xsk_umem::OutOfMemory;
 
@@ -23,6 +23,7 @@ pub(crate) struct Court {
     judge: Judge,
     hints: Hints,
     fills: Fills,
+    wakes: Wakes,
 }
 
 /// A recording that is read in pieces and judged. It keeps what its reader, its judge and its hints keep, and a copy of a begun line.
@@ -154,7 +155,24 @@ impl Check {
             }
             Event::NoSetting(error) => Ok(Some(settled(Verdict::NoSetting { line, error }))),
             Event::Call(call) => Ok(self.judge(line, call)),
+            Event::Aside(wakeup) => {
+                self.wake(line, wakeup);
+                Ok(None)
+            }
             Event::Fault => Ok(Some(settled(Verdict::NoRecording { line }))),
+        }
+    }
+
+    /// Notes the look or the wake of a line.
+    fn wake(&mut self, line: u64, wakeup: Wakeup)
+        requires { (r : Read) × (xs : List ℕ) × Heard self.old r × IsCounted r × (line ≡ r.lines + 1) × HasTold r xs (Event.Aside wakeup) }
+        ensures reading { self.new.reading ≡ self.old.reading }
+        ensures heard { (r : Read) (xs : List ℕ) → Heard self.old r → IsCounted r → line ≡ r.lines + 1 → HasTold r xs (Event.Aside wakeup)
+            → Hears self.new r xs (Event.Aside wakeup) None }
+    {
+        match &mut self.court {
+            Some(court) => wake(court, line, wakeup),
+            None => unreachable!(),
         }
     }
 
@@ -190,26 +208,30 @@ fn has_ended(part: &[u8]) -> bool {
 fn open_court(alloc: Global, setting: Setting) -> Result<Court, OutOfMemory>
     ensures setting { IfOk result (λ court. court.setting ≡ setting) }
     ensures opens { IfOk result IsOpen }
-    ensures follows { IfOk result (λ court. Follows court []) }
+    ensures follows { IfOk result (λ court. Follows court [] []) }
 {
     let judge = Judge::new(alloc, &setting)?;
     let hints = Hints::new(alloc, &setting)?;
     let fills = Fills::new(alloc, &setting)?;
+    let wakes = Wakes::new(alloc, &setting)?;
     Ok(Court {
         setting,
         judge,
         hints,
         fills,
+        wakes,
     })
 }
 
 /// Puts the hints behind a text.
 fn push_hints(text: &mut Vec<u8>, court: &Court) -> Result<(), OutOfMemory>
     requires { IsOpen court.now }
-    ensures { (lines : List Line) → Follows court.now lines → OnOk result (text.new.items ≡ text.old.items ++ hints_on court.now.setting lines) }
+    ensures { (lines : List Line) (asides : List Beside) → Follows court.now lines asides
+        → OnOk result (text.new.items ≡ text.old.items ++ hints_on court.now.setting lines asides) }
 {
     court.hints.append(text, &court.setting, &court.judge)?;
-    court.fills.append(text, &court.setting)
+    court.fills.append(text, &court.setting)?;
+    court.wakes.append(text, &court.setting, &court.judge)
 }
 
 /// The judge judges the next call; one that is possible is noted.
@@ -217,7 +239,8 @@ fn step(court: &mut Court, line: u64, call: &Call) -> Result<(), Why>
     requires { IsOpen court.old }
     ensures setting { court.new.setting ≡ court.old.setting }
     ensures opens { IfOk result (λ _. IsOpen court.new) }
-    ensures follows { IfOk result (λ _. (lines : List Line) → Follows court.old lines → Follows court.new (record { line = line; call = call.now } ∷ lines)) }
+    ensures follows { IfOk result (λ _. (lines : List Line) (asides : List Beside) → Follows court.old lines asides
+        → Follows court.new (record { line = line; call = call.now } ∷ lines) asides) }
     ensures why { IfErr result (λ why. (lines : List Line) → StandsForLines court.old.setting court.old.judge lines
         → IsWhy court.old.setting lines call.now why × IsReasonOf court.old.setting lines line call.now why) }
 {
@@ -225,6 +248,16 @@ fn step(court: &mut Court, line: u64, call: &Call) -> Result<(), Why>
     court.judge.step(&court.setting, line, call)?;
     court.hints.note(&court.setting, line, call);
     Ok(())
+}
+
+/// A look or a wake is noted.
+fn wake(court: &mut Court, line: u64, wakeup: Wakeup)
+    ensures setting { court.new.setting ≡ court.old.setting }
+    ensures opens { IsOpen court.old → IsOpen court.new }
+    ensures follows { (lines : List Line) (asides : List Beside) → Follows court.old lines asides
+        → Follows court.new lines (record { line = line; wakeup = wakeup } ∷ asides) }
+{
+    court.wakes.note(line, wakeup);
 }
 
 /// A verdict that no call is blamed for.

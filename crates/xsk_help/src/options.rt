@@ -21,7 +21,7 @@ const COMMANDS: &str = "
   forward   does so with each driver and each application in a thread of its own
   gen       writes a capture of the packets that are made of a number
   audit     tells the first line of a journal that isn't of a legal history of the rings, and why
-  check     tells the first call of a program's recording that isn't possible, and why
+  check     tells the first call of a program's recording that isn't possible, and why; else what is surely unwanted in it
 ";
 
 const STATUSES: &str = "

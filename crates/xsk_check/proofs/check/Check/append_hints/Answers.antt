@@ -11,7 +11,7 @@ push_hints-requires c =
 pub returns-in-Some : goal.returns-in-Some
 returns-in-Some c = λ bytes calls stands verdict.
     hinted c.args.self.now c.in-Some.court c.push_hints.result c.args.text.now.items c.push_hints.new.text.items bytes calls
-    (ap (λ (k : Checked). k.court) (sym c.self.view_is) ∙ c.in-Some.is) stands verdict (λ follows. c.push_hints.ensures _ follows)
+    (ap (λ (k : Checked). k.court) (sym c.self.view_is) ∙ c.in-Some.is) stands verdict (λ follows. c.push_hints.ensures _ _ follows)
 
 pub returns-in-None : goal.returns-in-None
 returns-in-None c = λ bytes calls stands verdict.

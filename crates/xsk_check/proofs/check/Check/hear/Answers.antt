@@ -30,6 +30,11 @@ returns-in-NoSetting-clause-heard c = λ r xs heard counted number told.
     subst (λ (e : Event). Hears c.args.self.now r xs e (Some c.settled.result)) (sym c.in-NoSetting.is)
     (subst (IsFoundAt r xs) (sym c.settled.ensures) (found-setting r xs c.args.line c.in-NoSetting.error number (subst (HasTold r xs) c.in-NoSetting.is told)))
 
+pub returns-in-Aside-clause-heard : goal.returns-in-Aside-clause-heard
+returns-in-Aside-clause-heard c = λ r xs heard counted number told.
+    subst (λ (e : Event). Hears c.wake.new.self r xs e None) (sym c.in-Aside.is)
+    (c.wake.ensures.heard r xs heard counted number (subst (HasTold r xs) c.in-Aside.is told))
+
 pub returns-in-Fault-clause-heard : goal.returns-in-Fault-clause-heard
 returns-in-Fault-clause-heard c = λ r xs heard counted number told.
     subst (λ (e : Event). Hears c.args.self.now r xs e (Some c.settled-in-Fault.result)) (sym c.in-Fault.is)
