@@ -9,3 +9,4 @@ pub mod Opened
 pub mod Purse
 pub mod Reading
 pub mod Rounds
+pub mod Texts

@@ -1,5 +1,5 @@
 //! What the exports answer, by the numbers of `c/include/xsk_c.h`.
-ghost use Rattle.std.specs.Prelude.{◌≡◌, List, MatchOption};
+ghost use Rattle.std.specs.Prelude.{◌≡◌, List};
 ghost use Rattle.xsk_umem.specs.declared.batch.Item.{Item};
 ghost use Rattle.xsk_model.specs.Asks.{joined_reply};
 ghost use Rattle.xsk_c.specs.Answers.{condition_number, fault_number, capture_number, reply_number, told_in};
@@ -44,25 +44,6 @@ pub(crate) fn number_of_condition(why: Illegal) -> u32
         Illegal::Packets => 23,
         Illegal::Ended => 24,
         Illegal::NotNow => 25,
-    }
-}
-
-/// The condition that has a number, if one has.
-pub(crate) fn condition_of(answer: u32) -> Option<Illegal>
-    ensures { MatchOption result Unit (λ why. answer ≡ condition_number why) }
-{
-    match answer {
-        16 => Some(Illegal::NoCaller),
-        17 => Some(Illegal::Unknown),
-        18 => Some(Illegal::NotItsOwn),
-        19 => Some(Illegal::Count),
-        20 => Some(Illegal::Places),
-        21 => Some(Illegal::Items),
-        22 => Some(Illegal::Frames),
-        23 => Some(Illegal::Packets),
-        24 => Some(Illegal::Ended),
-        25 => Some(Illegal::NotNow),
-        _ => None,
     }
 }
 

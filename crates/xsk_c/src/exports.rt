@@ -7,6 +7,7 @@ ghost use Rattle.xsk_c.specs.Opened.{Opens};
 ghost use Rattle.xsk_c.specs.Purse.{ReadsFrom, Writes, frame_at};
 ghost use Rattle.xsk_c.specs.Reading.{TellsCount, TellsPacket, TellsStatistics};
 ghost use Rattle.xsk_c.specs.Rounds.{HasRound, HasRounds};
+ghost use Rattle.xsk_c.specs.Texts.{TellsText, text_in};
 
 use crate::answers::{DONE, LIVE, NO_MEMORY, NOT_LIVE};
 use crate::handle::Handle;
@@ -249,6 +250,8 @@ pub extern "C" fn xsk_c_journal(
 
 /// The text of an answer; how long it is is told also where it doesn't fit.
 #[unsafe(no_mangle)]
-pub extern "C" fn xsk_c_why(alloc: Global, answer: u32, out: &mut [u8], len: &mut u64) -> u32 {
-    tell_why(alloc, answer, out, len)
+pub extern "C" fn xsk_c_why(answer: u32, out: &mut [u8], len: &mut u64) -> u32
+    ensures { TellsText (text_in answer) out.old out.new len.old len.new result }
+{
+    tell_why(answer, out, len)
 }
