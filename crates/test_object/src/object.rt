@@ -42,8 +42,7 @@ fn ask_checked(checked: &mut Checked, who: u32, call: Call) -> Result<Asked, Out
     if !checked.allows(who, ask, &items) {
         return Ok(Asked::Refused(ask.joined(items), None));
     }
-    let answer = checked.serve(who, ask, &mut items);
-    Ok(Asked::Made(answer.joined(items)))
+    Ok(Asked::Made(checked.perform(who, ask.joined(items))))
 }
 
 fn ask_why(checked: &mut Checked, who: u32, call: Call) -> Result<Asked, OutOfMemory> {
@@ -140,8 +139,7 @@ impl Engine for Plain {
         if !self.can_perform(ask, &items) {
             return Ok(Asked::Refused(ask.joined(items), None));
         }
-        let answer = self.serve(who, ask, &mut items);
-        Ok(Asked::Made(answer.joined(items)))
+        Ok(Asked::Made(self.perform(who, ask.joined(items))))
     }
 
     fn tell_last(&self, line: &mut LineBuffer) {

@@ -112,12 +112,13 @@ fn asked<L: Ledger>(
         return (Asked::Refused(ask.joined(items), None), 0);
     }
     let mut steps = Steps::<L>::new(blank);
-    let (answer, looks) = if anew {
-        looking(shared, pass, ask, &mut items, &mut steps)
-    } else {
-        counted(shared, pass, ask, &mut items, &mut steps)
-    };
-    (Asked::Made(answer.joined(items)), looks)
+    if anew {
+        let (answer, looks) = looking(shared, pass, ask, &mut items, &mut steps);
+        return (Asked::Made(answer.joined(items)), looks);
+    }
+    let looks = looks(shared, pass, ask, &items);
+    let reply = pass.perform_counted(shared, ask.joined(items), &mut steps);
+    (Asked::Made(reply), looks)
 }
 
 /// The same, with a counter that is opened for this call.

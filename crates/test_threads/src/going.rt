@@ -47,8 +47,7 @@ pub(crate) fn make(
     if !pass.allows(shared, ask, &items) {
         return None;
     }
-    let answer = pass.serve(shared, ask, &mut items);
-    let reply = answer.joined(items);
+    let reply = pass.perform(shared, ask.joined(items));
     tally.count(&reply);
     Some(reply)
 }

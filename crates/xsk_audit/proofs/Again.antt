@@ -12,11 +12,13 @@ use Rattle.xsk_model.specs.declared.call.Ring.{Ring}
 use Rattle.xsk_model.specs.declared.call.Ring.TheVariants.{Fill, Comp, Rx, Tx}
 use Rattle.xsk_model.specs.declared.call.Mark.{Mark}
 use Rattle.xsk_model.specs.declared.call.Mark.TheVariants.{NeedFill, NeedTx, Kick, RxDone, Gone, TxDone, Cell, Closing, Acked, Bounced}
+use Rattle.xsk_model.specs.declared.marks.MarkKind.{MarkKind}
+use Rattle.xsk_model.specs.declared.marks.MarkKind.TheVariants as kinds
 use Rattle.xsk_model.specs.declared.call.Call.{Call}
 use Rattle.xsk_model.specs.declared.call.Call.TheVariants.{Reserve, Submit, Peek, Release, Swap, Look}
 use Rattle.xsk_log.specs.Line.{who_text, ring_text, mark_text, desc_text, item_text, items_text, call_text, reply_text, line_of}
 use Rattle.xsk_audit.specs.Lines.{begins_digit}
-use Rattle.xsk_audit.specs.Reading.{small_at, numbered, word_at, who_at, ring_at, cell_at, mark_at, other_mark_at, desc_at, items_at, begins_item, counted_at, swap_at, submit_at, call_at, line_at, read_items, read_call}
+use Rattle.xsk_audit.specs.Reading.{small_at, numbered, word_at, who_at, ring_at, cell_at, rest_of_kind, mark_of_kind, mark_from, mark_at, desc_at, items_at, begins_item, counted_at, swap_at, submit_at, call_at, line_at, read_items, read_call}
 use Rattle.xsk_audit.specs.Telling.{Timed, journal_line}
 use Rattle.xsk_audit.proofs.Numbers.{number-again}
 
@@ -78,26 +80,31 @@ ring-again (Comp n) rest fits other = ap ring_at (append_assoc (codes "comp.") (
 ring-again (Rx n) rest fits other = ap ring_at (append_assoc (codes "rx.") (decimal n) rest) ∙ numbered-again Rx n rest fits other
 ring-again (Tx n) rest fits other = ap ring_at (append_assoc (codes "tx.") (decimal n) rest) ∙ numbered-again Tx n rest fits other
 
--- a number, a word and a number
+-- a number behind a word, and behind it the index of a cell
+marked-again : (kind : MarkKind) (n : ℕ) (rest : List ℕ) → n < 2 ^ 32 → begins_digit rest ≡ false → mark_of_kind kind (decimal n ++ rest) ≡ rest_of_kind kind (n, rest)
+marked-again kind n rest fits other = rw (small-again n rest fits other) refl
+
 cell-again : (port index : ℕ) (rest : List ℕ) → port < 2 ^ 32 → index < 2 ^ 32 → begins_digit rest ≡ false
-    → cell_at (decimal port ++ codes "." ++ decimal index ++ rest) ≡ Some (Cell port index, rest)
+    → mark_of_kind kinds.Cell (decimal port ++ (codes "." ++ (decimal index ++ rest))) ≡ Some (Cell port index, rest)
 unfolding cell_at word_at
 cell-again port index rest fits within other =
-    ap cell_at (append_assoc (decimal port ++ codes ".") (decimal index) rest ∙ append_assoc (decimal port) (codes ".") (decimal index ++ rest))
-    ∙ rw (small-again port (codes "." ++ (decimal index ++ rest)) fits refl, small-again index rest within other) refl
+    marked-again kinds.Cell port (codes "." ++ (decimal index ++ rest)) fits refl ∙ rw (small-again index rest within other) refl
 
 mark-again : (m : Mark) (rest : List ℕ) → FitsMark m → begins_digit rest ≡ false → mark_at (mark_text m ++ rest) ≡ Some (m, rest)
-unfolding mark_at other_mark_at word_at
-mark-again (NeedFill n) rest fits other = ap mark_at (append_assoc (codes "need.fill.") (decimal n) rest) ∙ numbered-again NeedFill n rest fits other
-mark-again (NeedTx n) rest fits other = ap mark_at (append_assoc (codes "need.tx.") (decimal n) rest) ∙ numbered-again NeedTx n rest fits other
-mark-again (Kick n) rest fits other = ap mark_at (append_assoc (codes "kick.") (decimal n) rest) ∙ numbered-again Kick n rest fits other
-mark-again (RxDone n) rest fits other = ap mark_at (append_assoc (codes "rxdone.") (decimal n) rest) ∙ numbered-again RxDone n rest fits other
-mark-again (Gone n) rest fits other = ap mark_at (append_assoc (codes "gone.") (decimal n) rest) ∙ numbered-again Gone n rest fits other
-mark-again (TxDone n) rest fits other = ap mark_at (append_assoc (codes "txdone.") (decimal n) rest) ∙ numbered-again TxDone n rest fits other
-mark-again (Cell port index) rest fits other = cell-again port index rest fits.0 fits.1 other
-mark-again (Closing n) rest fits other = ap mark_at (append_assoc (codes "closing.") (decimal n) rest) ∙ numbered-again Closing n rest fits other
-mark-again (Acked n) rest fits other = ap mark_at (append_assoc (codes "acked.") (decimal n) rest) ∙ numbered-again Acked n rest fits other
-mark-again (Bounced n) rest fits other = ap mark_at (append_assoc (codes "bounced.") (decimal n) rest) ∙ numbered-again Bounced n rest fits other
+unfolding mark_from word_at
+mark-again (NeedFill n) rest fits other = ap mark_at (append_assoc (codes "need.fill.") (decimal n) rest) ∙ marked-again kinds.NeedFill n rest fits other
+mark-again (NeedTx n) rest fits other = ap mark_at (append_assoc (codes "need.tx.") (decimal n) rest) ∙ marked-again kinds.NeedTx n rest fits other
+mark-again (Kick n) rest fits other = ap mark_at (append_assoc (codes "kick.") (decimal n) rest) ∙ marked-again kinds.Kick n rest fits other
+mark-again (RxDone n) rest fits other = ap mark_at (append_assoc (codes "rxdone.") (decimal n) rest) ∙ marked-again kinds.RxDone n rest fits other
+mark-again (Gone n) rest fits other = ap mark_at (append_assoc (codes "gone.") (decimal n) rest) ∙ marked-again kinds.Gone n rest fits other
+mark-again (TxDone n) rest fits other = ap mark_at (append_assoc (codes "txdone.") (decimal n) rest) ∙ marked-again kinds.TxDone n rest fits other
+mark-again (Cell port index) rest fits other =
+    ap mark_at (append_assoc (codes "cell." ++ decimal port ++ codes ".") (decimal index) rest ∙ append_assoc (codes "cell." ++ decimal port) (codes ".") (decimal index ++ rest)
+    ∙ append_assoc (codes "cell.") (decimal port) (codes "." ++ (decimal index ++ rest)))
+    ∙ cell-again port index rest fits.0 fits.1 other
+mark-again (Closing n) rest fits other = ap mark_at (append_assoc (codes "closing.") (decimal n) rest) ∙ marked-again kinds.Closing n rest fits other
+mark-again (Acked n) rest fits other = ap mark_at (append_assoc (codes "acked.") (decimal n) rest) ∙ marked-again kinds.Acked n rest fits other
+mark-again (Bounced n) rest fits other = ap mark_at (append_assoc (codes "bounced.") (decimal n) rest) ∙ marked-again kinds.Bounced n rest fits other
 
 who-again : (pairs who : ℕ) (rest : List ℕ) → who < 2 ^ 32 → begins_digit rest ≡ false → who_at pairs (who_text pairs who ++ rest) ≡ Some (who, rest)
 unfolding who_at word_at

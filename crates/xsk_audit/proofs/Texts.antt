@@ -1,5 +1,5 @@
 -- How the readers follow a text.
-use Rattle.std.proofs.Common.{◌≡◌, ℕ, ◌+◌, ◌-◌, ◌*◌, ◌^◌, ◌<◌, ◌≤◌, Option, Some, None, List, [], ◌∷◌, ◌++◌, length, take, drop, slice_index, refl, sym, ap, ◌∙◌, inl, inr, true, false, append_assoc, arith}
+use Rattle.std.proofs.Common.{◌≡◌, ℕ, suc, ◌+◌, ◌-◌, ◌*◌, ◌^◌, ◌<◌, ◌≤◌, Option, Some, None, List, [], ◌∷◌, ◌++◌, length, take, drop, slice_index, refl, sym, ap, ◌∙◌, inl, inr, true, false, append_assoc, arith}
 use Rattle.std.specs.Prelude.{Bool, ◌==◌, ◌&&◌, nat_eq}
 use Rattle.std.specs.Borrow.{Bor}
 use Rattle.std.specs.Option.{MatchOption}
@@ -9,7 +9,8 @@ use Rattle.std.proofs.lemmas.Bool.{cases_Bool, eq-eqb, eqb-true, le-leb, lt-leb,
 use Rattle.std.specs.Fmt.{decimal}
 use Rattle.xsk_audit.proofs.Numbers.{number-text, some-value}
 use Rattle.std.proofs.lemmas.List.{drop_more}
-use Rattle.xsk_audit.specs.Reading.{text_view, word_at, number_at, digits_end, digits_from, is_leading_zero}
+use Rattle.xsk_model.specs.MarkKinds.{kind_at, word_of}
+use Rattle.xsk_audit.specs.Reading.{text_view, choose, word_at, mark_of_kind, mark_from, number_at, digits_end, digits_from, is_leading_zero}
 
 -- a digit, another byte, a zero in front and a number that is too large, at place i
 pub digits-stop : (value len : ℕ) (xs : List ℕ) (i : ℕ) → i < length xs → is_ascii_digit (slice_index xs i) ≡ false
@@ -119,3 +120,29 @@ timed-text line round rest later text number word same =
       n.1,
       n.0 ∙ ap (λ l. decimal round ++ l) (word-text (32 ∷ []) rest later (sym word) ∙ ap (λ l. 32 ∷ l) (same-bytes later text same)) ∙ sym (append_assoc (decimal round) (32 ∷ []) text),
     )
+
+-- a word that is looked for among those of the kinds of marks
+next_row : (row : ℕ) → row < 10 → 10 - row ≡ suc (10 - (row + 1))
+next_row row below = omega (arith, below)
+
+pub other-kind : (row : ℕ) (xs : List ℕ) → row < 10 → word_at (word_of (kind_at row)) xs ≡ None → mark_from (10 - row) row xs ≡ mark_from (10 - (row + 1)) (row + 1) xs
+unfolding mark_from
+other-kind row xs below none =
+    let later = mark_from (10 - (row + 1)) (row + 1) xs in
+    ap (λ n. mark_from n row xs) (next_row row below) ∙ ap (λ found. choose found (mark_of_kind (kind_at row)) later) none
+
+pub this-kind : (row : ℕ) (xs rest : List ℕ) → row < 10 → word_at (word_of (kind_at row)) xs ≡ Some rest → mark_from (10 - row) row xs ≡ mark_of_kind (kind_at row) rest
+unfolding mark_from
+this-kind row xs rest below some =
+    let later = mark_from (10 - (row + 1)) (row + 1) xs in
+    ap (λ n. mark_from n row xs) (next_row row below) ∙ ap (λ found. choose found (mark_of_kind (kind_at row)) later) some
+
+pub no-kind : (row : ℕ) (xs : List ℕ) → 10 ≤ row → mark_from (10 - row) row xs ≡ None
+unfolding mark_from
+no-kind row xs past =
+    let none : 10 - row ≡ 0 = omega (arith, past) in
+    ap (λ n. mark_from n row xs) none
+
+pub no-view : (text : Option (Bor (List ℕ))) → ((rest : Bor (List ℕ)) → text ≡ Some rest → ⊥) → text_view text ≡ None
+no-view None other = refl
+no-view (Some rest) other = absurd (other rest refl)

@@ -6,11 +6,14 @@ use Rattle.std.specs.Borrow.{Bor}
 use Rattle.xsk_umem.specs.declared.batch.Item.{Item}
 use Rattle.xsk_umem.specs.declared.batch.XdpDesc.{XdpDesc}
 use Rattle.xsk_model.specs.Asks.{joined_call}
+use Rattle.xsk_model.specs.MarkKinds.{mark_of, kind_at, word_of}
 use Rattle.xsk_model.specs.declared.ask.Ask.{Ask}
 use Rattle.xsk_model.specs.declared.call.Ring.{Ring}
 use Rattle.xsk_model.specs.declared.call.Ring.TheVariants.{Fill, Comp, Rx, Tx}
 use Rattle.xsk_model.specs.declared.call.Mark.{Mark}
-use Rattle.xsk_model.specs.declared.call.Mark.TheVariants.{NeedFill, NeedTx, Kick, RxDone, Gone, TxDone, Cell, Closing, Acked, Bounced}
+use Rattle.xsk_model.specs.declared.call.Mark.TheVariants as mark
+use Rattle.xsk_model.specs.declared.marks.MarkKind.{MarkKind}
+use Rattle.xsk_model.specs.declared.marks.MarkKind.TheVariants.{Cell}
 use Rattle.xsk_model.specs.declared.call.Call.{Call}
 use Rattle.xsk_model.specs.declared.call.Call.TheVariants.{Reserve, Submit, Peek, Release, Swap, Look}
 
@@ -111,38 +114,25 @@ ring_at xs =
     (choose (word_at (codes "rx.") xs) (numbered Rx)
     (choose (word_at (codes "tx.") xs) (numbered Tx) None)))
 
--- the mark of this one's kind with a number, of a cell its second
-abbrev pub mark_like : Mark → ℕ → Mark
-mark_like (NeedFill _) n = NeedFill n
-mark_like (NeedTx _) n = NeedTx n
-mark_like (Kick _) n = Kick n
-mark_like (RxDone _) n = RxDone n
-mark_like (Gone _) n = Gone n
-mark_like (TxDone _) n = TxDone n
-mark_like (Cell port _) n = Cell port n
-mark_like (Closing _) n = Closing n
-mark_like (Acked _) n = Acked n
-mark_like (Bounced _) n = Bounced n
+-- the index of a cell of this port, behind a dot
+unfoldable pub cell_at : ℕ → List ℕ → Reads Mark
+cell_at port xs = word_at (codes ".") xs >>= λ rest. small_at rest >>= λ index. Some (mark.Cell port index.0, index.1)
 
-unfoldable pub cell_at : List ℕ → Reads Mark
-cell_at xs = small_at xs >>= λ port. word_at (codes ".") port.1 >>= λ rest. small_at rest >>= λ index. Some (Cell port.0 index.0, index.1)
+-- the number of a mark of this kind, and what is behind it of a cell
+abbrev pub rest_of_kind : MarkKind → ℕ × List ℕ → Reads Mark
+rest_of_kind Cell read = cell_at read.0 read.1
+rest_of_kind kind read = Some (mark_of kind read.0 0, read.1)
 
--- a cell, and the marks of closing and bouncing
-unfoldable pub other_mark_at : List ℕ → Reads Mark
-other_mark_at xs =
-    choose (word_at (codes "cell.") xs) cell_at
-    (choose (word_at (codes "closing.") xs) (numbered Closing)
-    (choose (word_at (codes "acked.") xs) (numbered Acked)
-    (choose (word_at (codes "bounced.") xs) (numbered Bounced) None)))
+abbrev pub mark_of_kind : MarkKind → List ℕ → Reads Mark
+mark_of_kind kind xs = small_at xs >>= rest_of_kind kind
 
-unfoldable pub mark_at : List ℕ → Reads Mark
-mark_at xs =
-    choose (word_at (codes "need.fill.") xs) (numbered NeedFill)
-    (choose (word_at (codes "need.tx.") xs) (numbered NeedTx)
-    (choose (word_at (codes "kick.") xs) (numbered Kick)
-    (choose (word_at (codes "rxdone.") xs) (numbered RxDone)
-    (choose (word_at (codes "gone.") xs) (numbered Gone)
-    (choose (word_at (codes "txdone.") xs) (numbered TxDone) (other_mark_at xs))))))
+-- a mark of the first of so many kinds, from this row on, whose word stands here
+unfoldable pub mark_from : (n row : ℕ) → List ℕ → Reads Mark
+mark_from zero row xs = None
+mark_from (suc n) row xs = choose (word_at (word_of (kind_at row)) xs) (mark_of_kind (kind_at row)) (mark_from n (row + 1) xs)
+
+abbrev pub mark_at : List ℕ → Reads Mark
+mark_at xs = mark_from 10 0 xs
 
 -- ---- items
 

@@ -1,9 +1,10 @@
 //! The words of a journal's line: callers, rings, marks and items.
 ghost use Rattle.std.specs.Prelude.{◌≡◌};
-ghost use Rattle.xsk_audit.specs.Reading.{read_view, text_view, word_at, who_at, driver_at, application_at, ring_at, ring_like, cell_at, mark_at, mark_like, numbered, other_mark_at, desc_at, begins_item};
+ghost use Rattle.xsk_audit.specs.Reading.{read_view, text_view, word_at, who_at, driver_at, application_at, ring_at, ring_like, cell_at, mark_at, mark_of_kind, numbered, desc_at, begins_item};
 
 use crate::number::{number, small};
-use xsk_model::{Mark, Ring};
+use xsk_model::marks::MARK_KINDS;
+use xsk_model::{Mark, MarkKind, Ring};
 use xsk_umem::XdpDesc;
 
 /// The text behind a word, if it begins with it. Most words differ in their first letter.
@@ -91,82 +92,38 @@ fn ring_like(kind: Ring, number: u32) -> Ring
     }
 }
 
-#[tactic(auto, unfolding(crate::specs::Reading::mark_at))]
+/// A mark, of the kind whose word stands here.
 pub(crate) fn mark(text: &[u8]) -> Option<(Mark, &[u8])>
     ensures { read_view result ≡ mark_at text.now }
 {
-    if let Some(rest) = word(text, b"need.fill.".as_slice()) {
-        return numbered_mark(Mark::NeedFill(0), rest);
+    for row in 0..MARK_KINDS {
+        let kind = MarkKind::at(row);
+        if let Some(rest) = word(text, kind.word().as_bytes()) {
+            return mark_of_kind(kind, rest);
+        }
     }
-    if let Some(rest) = word(text, b"need.tx.".as_slice()) {
-        return numbered_mark(Mark::NeedTx(0), rest);
-    }
-    if let Some(rest) = word(text, b"kick.".as_slice()) {
-        return numbered_mark(Mark::Kick(0), rest);
-    }
-    if let Some(rest) = word(text, b"rxdone.".as_slice()) {
-        return numbered_mark(Mark::RxDone(0), rest);
-    }
-    if let Some(rest) = word(text, b"gone.".as_slice()) {
-        return numbered_mark(Mark::Gone(0), rest);
-    }
-    if let Some(rest) = word(text, b"txdone.".as_slice()) {
-        return numbered_mark(Mark::TxDone(0), rest);
-    }
-    other_mark(text)
+    None
 }
 
-/// The other marks: cells, and those of closing and bouncing.
-#[tactic(auto, unfolding(crate::specs::Reading::other_mark_at))]
-fn other_mark(text: &[u8]) -> Option<(Mark, &[u8])>
-    ensures { read_view result ≡ other_mark_at text.now }
-{
-    if let Some(rest) = word(text, b"cell.".as_slice()) {
-        return cell(rest);
-    }
-    if let Some(rest) = word(text, b"closing.".as_slice()) {
-        return numbered_mark(Mark::Closing(0), rest);
-    }
-    if let Some(rest) = word(text, b"acked.".as_slice()) {
-        return numbered_mark(Mark::Acked(0), rest);
-    }
-    let rest = word(text, b"bounced.".as_slice())?;
-    numbered_mark(Mark::Bounced(0), rest)
-}
-
-/// A mark of this one's kind, with the number at the front of a text. A cell keeps its port.
-fn numbered_mark(kind: Mark, text: &[u8]) -> Option<(Mark, &[u8])>
-    ensures { read_view result ≡ numbered (mark_like kind) text.now }
+/// A mark of a kind, with its number at the front of a text, and behind it the index of a cell.
+fn mark_of_kind(kind: MarkKind, text: &[u8]) -> Option<(Mark, &[u8])>
+    ensures { read_view result ≡ mark_of_kind kind text.now }
 {
     let (number, rest) = small(text)?;
-    Some((mark_like(kind, number), rest))
-}
-
-/// The mark of this one's kind with a number. A cell keeps its port.
-fn mark_like(kind: Mark, number: u32) -> Mark
-    ensures { result ≡ mark_like kind number }
-{
     match kind {
-        Mark::NeedFill(_) => Mark::NeedFill(number),
-        Mark::NeedTx(_) => Mark::NeedTx(number),
-        Mark::Kick(_) => Mark::Kick(number),
-        Mark::RxDone(_) => Mark::RxDone(number),
-        Mark::Gone(_) => Mark::Gone(number),
-        Mark::TxDone(_) => Mark::TxDone(number),
-        Mark::Cell(port, _) => Mark::Cell(port, number),
-        Mark::Closing(_) => Mark::Closing(number),
-        Mark::Acked(_) => Mark::Acked(number),
-        Mark::Bounced(_) => Mark::Bounced(number),
+        MarkKind::Cell => cell(number, rest),
+        _ => Some((Mark::of(kind, number, 0), rest)),
     }
 }
 
+/// A cell of a port, with its index behind a dot at the front of a text.
 #[tactic(auto, unfolding(crate::specs::Reading::cell_at))]
-fn cell(text: &[u8]) -> Option<(Mark, &[u8])>
-    ensures { read_view result ≡ cell_at text.now }
+fn cell(port: u32, text: &[u8]) -> Option<(Mark, &[u8])>
+    ensures { read_view result ≡ cell_at port text.now }
 {
-    let (port, rest) = small(text)?;
-    let rest = word(rest, b".".as_slice())?;
-    numbered_mark(Mark::Cell(port, 0), rest)
+    let rest = word(text, b".".as_slice())?;
+    let (index, rest) = small(rest)?;
+    Some((Mark::Cell(port, index), rest))
 }
 
 /// The descriptor of an item: address, length and options.

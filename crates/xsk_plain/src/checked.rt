@@ -5,7 +5,7 @@ use std::alloc::Global;
 use std::marker::Model;
 use xsk_legal::{Illegal, Standing};
 use xsk_log::{LineBuffer, Lines, Log};
-use xsk_model::{Answer, Ask, Config};
+use xsk_model::{Answer, Ask, Call, Config, Reply};
 use xsk_umem::{Batch, Frames, OutOfMemory};
 
 /// The object on one thread, which knows of each caller which of its calls are legal. Its calls were all legal, so its log
@@ -152,9 +152,32 @@ impl Checked {
         self.standings[place].why_not(self.plain.config(), ask, items)
     }
 
-    /// Makes the call for the caller, and logs it with its reply. It must be legal after the caller's own calls and replies in
-    /// the log, and the log must have room for it. The items of a Submit are taken from the batch, and those of a Peek put
-    /// there. It must be empty unless the call is a Submit, and is left empty unless items were taken.
+    /// Makes the call for the caller, gives its reply and logs both. It must be legal after the caller's own calls and
+    /// replies in the log, and the log must have room for it.
+    pub fn perform(&mut self, who: u32, call: Call) -> Reply
+        requires legal { IsLegal self.old.config (own who self.old.log) who call }
+        requires entries { 1 ≤ self.old.spare_entries }
+        requires bytes { payload_bytes self.old.config call ≤ self.old.spare_bytes }
+
+        // The reply and the change are the object's, in each state that is shown.
+        ensures reply { (s : State) → Shows self.old s → result ≡ reply_at self.old.config s call }
+        ensures state { (s : State) → Shows self.old s → Shows self.new (after self.old.config s who call) }
+        ensures kind { IsReplyTo call result }
+        ensures log { self.new.log ≡ self.old.log ++ stored_entry self.old.config.geometry self.old.config.sg (record { who = who; call = call; reply = result }) ∷ [] }
+        ensures config { self.new.config ≡ self.old.config }
+        ensures calls { self.new.calls ≡ self.old.calls + 1 }
+        ensures entries { self.new.spare_entries + 1 ≡ self.old.spare_entries }
+        ensures bytes { self.new.spare_bytes + payload_bytes self.old.config call ≡ self.old.spare_bytes }
+    {
+        let mut items = Batch::new();
+        let ask = call.split(&mut items);
+        let answer = self.serve(who, ask, &mut items);
+        answer.joined(items)
+    }
+
+    /// Makes the call as `perform` does, with the items of a Submit taken from the batch, and those of a Peek put there.
+    /// No batch is moved by it. The batch must be empty unless the call is a Submit, and is left empty unless items were
+    /// taken.
     pub fn serve(&mut self, who: u32, ask: Ask, items: &mut Batch) -> Answer
         requires legal { IsLegal self.old.config (own who self.old.log) who (joined_call ask items.old) }
         requires entries { 1 ≤ self.old.spare_entries }

@@ -10,8 +10,6 @@ ghost use Rattle.xsk_model.specs.Expected.{IsReplyTo, IsReserved, IsPeeked, IsOl
 ghost use Rattle.xsk_model.specs.Object.{State, reply_at, after};
 ghost use Rattle.xsk_model.specs.Opening.{AreFrames, opening};
 ghost use Rattle.xsk_model.specs.Stored.{stored_entry};
-ghost use Rattle.xsk_model.specs.declared.call.Call.{Call};
-ghost use Rattle.xsk_model.specs.declared.call.Reply.{Reply};
 ghost use Rattle.xsk_plain.specs.Counts.{counts_of, number_of};
 ghost use Rattle.xsk_plain.specs.Engine.{Shows, CanPerform, frames_out, part_in};
 ghost use Rattle.xsk_log.specs.Left.{left_of};
@@ -26,7 +24,7 @@ use std::alloc::Global;
 use std::marker::Model;
 use thiserror::Error;
 use xsk_log::{Event, LineBuffer, Lines, Log};
-use xsk_model::{Answer, Ask, Config, Mark, Ring};
+use xsk_model::{Answer, Ask, Call, Config, Mark, Reply, Ring};
 use xsk_umem::{Batch, Frames, OutOfMemory};
 
 /// The most bytes of a chunk.
@@ -156,9 +154,33 @@ impl Plain {
         self.object.can_perform(ask, items)
     }
 
-    /// Makes the call for the caller, and logs it with its reply. It must be one that can be performed, and the log must have
-    /// room for it. The items of a Submit are taken from the batch, and those of a Peek put there. It must be empty unless
-    /// the call is a Submit, and is left empty unless items were taken.
+    /// Makes the call for the caller, gives its reply and logs both. It must be one that can be performed, and the log
+    /// must have room for it.
+    #[inline(always)]
+    pub fn perform(&mut self, who: u32, call: Call) -> Reply
+        requires can { CanPerform self.old.config self.old.rings call }
+        requires entries { 1 ≤ self.old.spare_entries }
+        requires bytes { payload_bytes self.old.config call ≤ self.old.spare_bytes }
+
+        // The reply and the change are the object's, in each state that is shown.
+        ensures reply { (s : State) → Shows self.old s → result ≡ reply_at self.old.config s call }
+        ensures state { (s : State) → Shows self.old s → Shows self.new (after self.old.config s who call) }
+        ensures kind { IsReplyTo call result }
+        ensures log { self.new.log ≡ self.old.log ++ stored_entry self.old.config.geometry self.old.config.sg (record { who = who; call = call; reply = result }) ∷ [] }
+        ensures config { self.new.config ≡ self.old.config }
+        ensures calls { self.new.calls ≡ self.old.calls + 1 }
+        ensures entries { self.new.spare_entries + 1 ≡ self.old.spare_entries }
+        ensures bytes { self.new.spare_bytes + payload_bytes self.old.config call ≡ self.old.spare_bytes }
+    {
+        let mut items = Batch::new();
+        let ask = call.split(&mut items);
+        let answer = self.serve(who, ask, &mut items);
+        answer.joined(items)
+    }
+
+    /// Makes the call as `perform` does, with the items of a Submit taken from the batch, and those of a Peek put there.
+    /// No batch is moved by it. The batch must be empty unless the call is a Submit, and is left empty unless items were
+    /// taken.
     #[inline(always)]
     pub fn serve(&mut self, who: u32, ask: Ask, items: &mut Batch) -> Answer
         requires can { CanPerform self.old.config self.old.rings (joined_call ask items.old) }

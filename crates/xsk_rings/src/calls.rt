@@ -7,7 +7,7 @@ ghost use Rattle.xsk_rings.specs.Serving.{MayAsk, Tells, looks_of};
 use crate::serving;
 use std::marker::Brand;
 use std::sync::ledger::{Blank, Ledger};
-use xsk_model::{Answer, Ask};
+use xsk_model::{Answer, Ask, Call, Reply};
 use xsk_table::{Pass, Shared, Steps};
 use xsk_umem::Batch;
 
@@ -40,6 +40,22 @@ pub trait RingCalls {
         requires items { HasAsked ask items.old }
         ensures told { Tells (holder self.old) (holder self.new) (joined_call ask items.old) (joined_reply result items.new) }
         ensures items { HasAnswered result items.new };
+
+    /// Makes the call and gives its reply. It counts its looks at the other side's count.
+    fn perform_counted<L: Ledger>(
+        &mut self,
+        shared: &Shared,
+        call: Call,
+        steps: &mut Steps<L>,
+    ) -> Reply
+        requires may { MayAsk shared.now (holder self.old) call }
+        ensures told { Tells (holder self.old) (holder self.new) call result }
+        ensures counted { steps.new ≡ steps.old + looks_of (holder self.old) call };
+
+    /// The same, for a caller that counts nothing.
+    fn perform(&mut self, shared: &Shared, call: Call) -> Reply
+        requires may { MayAsk shared.now (holder self.old) call }
+        ensures told { Tells (holder self.old) (holder self.new) call result };
 }
 
 /// Makes a call with a counter of its own.
@@ -87,5 +103,26 @@ impl RingCalls for Pass {
     fn serve(&mut self, shared: &Shared, ask: Ask, items: &mut Batch) -> Answer {
         let blank = Blank::new(1);
         serve_uncounted::<Brand>(self, shared, ask, items, blank)
+    }
+
+    #[inline(always)]
+    fn perform_counted<L: Ledger>(
+        &mut self,
+        shared: &Shared,
+        call: Call,
+        steps: &mut Steps<L>,
+    ) -> Reply {
+        let mut items = Batch::new();
+        let ask = call.split(&mut items);
+        let answer = self.serve_counted(shared, ask, &mut items, steps);
+        answer.joined(items)
+    }
+
+    #[inline(always)]
+    fn perform(&mut self, shared: &Shared, call: Call) -> Reply {
+        let mut items = Batch::new();
+        let ask = call.split(&mut items);
+        let answer = self.serve(shared, ask, &mut items);
+        answer.joined(items)
     }
 }

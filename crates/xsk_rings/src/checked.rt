@@ -18,7 +18,7 @@ use std::alloc::Global;
 use std::marker::{Brand, Model};
 use std::sync::ledger::{Blank, Ledger};
 use xsk_legal::Standing;
-use xsk_model::{Answer, Ask, Ring};
+use xsk_model::{Answer, Ask, Call, Reply, Ring};
 use xsk_table::{Note, Pass, Shared, Steps};
 use xsk_umem::Batch;
 
@@ -233,5 +233,24 @@ impl RingCalls for CheckedPass {
             items,
             blank,
         )
+    }
+
+    fn perform_counted<L: Ledger>(
+        &mut self,
+        shared: &Shared,
+        call: Call,
+        steps: &mut Steps<L>,
+    ) -> Reply {
+        let mut items = Batch::new();
+        let ask = call.split(&mut items);
+        let answer = self.serve_counted(shared, ask, &mut items, steps);
+        answer.joined(items)
+    }
+
+    fn perform(&mut self, shared: &Shared, call: Call) -> Reply {
+        let mut items = Batch::new();
+        let ask = call.split(&mut items);
+        let answer = self.serve(shared, ask, &mut items);
+        answer.joined(items)
     }
 }

@@ -1,5 +1,5 @@
 -- From ends to a step and back.
-use Rattle.std.proofs.Common.{◌≡◌, ℕ, ◌<◌, Bool, true, false, cond, eqb, List, [], ◌∷◌, refl, sym, ap, ◌∙◌, subst, append-nil, arith}
+use Rattle.std.proofs.Common.{◌≡◌, ℕ, ◌<◌, Bool, true, false, cond, eqb, List, [], ◌∷◌, length, refl, sym, ap, ◌∙◌, subst, append-nil, arith}
 use Rattle.xsk_umem.specs.Frame.{Frame}
 use Rattle.xsk_umem.specs.Geometry.{IsGeometry}
 use Rattle.xsk_umem.specs.declared.batch.Item.{Item}
@@ -13,9 +13,9 @@ use Rattle.xsk_model.specs.declared.call.Mark.TheVariants.{RxDone}
 use Rattle.xsk_model.specs.declared.call.Reply.TheVariants.{Empty}
 use Rattle.xsk_model.specs.declared.call.Ring.TheVariants.{Rx}
 use Rattle.xsk_turns.specs.Script.{Script, ask, again, on_old}
-use Rattle.xsk_turns.specs.AppTurns.{AppKept, pair_of, rx_of, tx_of, tx_pair, lanes_of, pending_at, with_pending, back_at, visit_lane, visit_side, with_seen, look_rx_done, app_start}
+use Rattle.xsk_turns.specs.AppTurns.{AppKept, pair_of, rx_of, tx_of, tx_pair, lanes_of, pending_at, with_pending, back_at, visit_lane, visit_side, is_set, with_seen, look_rx_done, app_start}
 use Rattle.xsk_turns.specs.AppOwned.{HasOwnFrames}
-use Rattle.xsk_turns.specs.AppSplit.{SplitStep, AtLane, AtSide, HasPlace, no_note, HasLeft, IsStep, IsSplit, piece}
+use Rattle.xsk_turns.specs.AppSplit.{SplitStep, AtLane, AtSide, AtMarks, HasPlace, no_note, HasLeft, IsStep, IsSplit, piece}
 use Rattle.xsk_turns.specs.Mangling.{plain}
 use Rattle.xsk_turns.proofs.AppSplit.{fit_join, split_push, split_keeps_frames, split_keeps_lanes, split_none, step_sends, lanes_after_steps}
 use Rattle.xsk_turns.proofs.AppHomes.{had_none}
@@ -178,9 +178,36 @@ module _ (o : Origin) (q : Holder) (k : AppKept) where
   second_looked x true now h = subst (λ b. At o q (again (seen_as k x b)) Moved) (sym h.0) h.1
   second_looked x false now h = subst (λ b. At o q (again (seen_as k x b)) Moved) (sym h.1) (by_second x (eqb h.0 1) h.2)
 
--- a step that was made from the same ends, or of the same side
+-- both, as the ends have them
+two_flags : (flags : List Bool) → length flags ≡ 2 → flags ≡ is_set flags 0 ∷ is_set flags 1 ∷ []
+two_flags [] two = absurd (omega (arith, two))
+two_flags (x ∷ []) two = absurd (omega (arith, two))
+two_flags (x ∷ y ∷ []) two = refl
+two_flags (x ∷ y ∷ z ∷ flags) two = absurd (omega (arith, two))
+
+abbrev pub in_order : AppKept → AppKept
+in_order k = seen_as k (is_set k.seen 0) (is_set k.seen 1)
+
+abbrev pub after_first : EndsShown → ℕ → Script AppKept
+after_first e n = second e.config e.app (with_seen (in_order e.kept) 0 n)
+
+abbrev pub after_second : EndsShown → Bool → ℕ → Script AppKept
+after_second e now n = no_more e.config e.app (with_seen (seen_as e.kept now (is_set e.kept.seen 1)) 1 n)
+
+module _ (e : EndsShown) (is : AreEnds e) (two : length e.kept.seen ≡ 2) where
+  pub looks_first : (pair : ℕ) → pair ≡ pair_of e.config e.app 0
+      → Looks (origin e AtMarks) (RxDone pair) (is_set e.kept.seen 0) (in_order e.kept) (second e.config e.app (in_order e.kept)) (after_first e) e.pass
+  looks_first pair same =
+      looks_mark (origin e AtMarks) e.pass pair (pair_of e.config e.app 0) (is_set e.kept.seen 0) (in_order e.kept) (second e.config e.app (in_order e.kept)) (after_first e) same
+      (subst (λ (flags : List Bool). At (origin e AtMarks) e.pass (look_rx_done e.config e.app 2 0 (record e.kept { seen = flags })) Moved) (two_flags e.kept.seen two) (begins e AtMarks is tt))
+
+  pub looks_second : (q : Holder) (now : Bool) (pair : ℕ) → pair ≡ pair_of e.config e.app 1
+      → HasLooked (origin e AtMarks) (is_set e.kept.seen 0) now (second e.config e.app (in_order e.kept)) (after_first e) q
+      → Looks (origin e AtMarks) (RxDone pair) (is_set e.kept.seen 1) (seen_as e.kept now (is_set e.kept.seen 1)) (no_more e.config e.app (seen_as e.kept now (is_set e.kept.seen 1))) (after_second e now) q
+  looks_second q now pair same looked =
+      looks_mark (origin e AtMarks) q pair (pair_of e.config e.app 1) (is_set e.kept.seen 1) (seen_as e.kept now (is_set e.kept.seen 1)) (no_more e.config e.app (seen_as e.kept now (is_set e.kept.seen 1)))
+      (after_second e now) same (first_looked (origin e AtMarks) q e.kept (is_set e.kept.seen 0) (is_set e.kept.seen 1) now looked)
+
+-- a step that was made from the same ends
 pub made_from : (step : SplitStep) (e f new : EndsShown) (came : Step) → e ≡ f → Makes step e new came → Makes step f new came
 made_from step e f new came same h = subst (λ x. Makes step x new came) same h
-
-pub made_at : (side s : ℕ) (e new : EndsShown) (came : Step) → side ≡ s → Makes (AtSide s) e new came → Makes (AtSide side) e new came
-made_at side s e new came same h = subst (λ n. Makes (AtSide n) e new came) (sym same) h

@@ -125,12 +125,13 @@ impl<'a> Ends<'a> {
         ensures made { Makes (AtSide side) self.old self.new result }
     {
         let pair = side_pair(self.config, self.app, side);
-        let pass = &mut self.pass;
-        if side == 0 {
-            visit_side(self.config, pair, pass, shared, &mut self.kept.back0)
-        } else {
-            visit_side(self.config, pair, pass, shared, &mut self.kept.back1)
-        }
+        visit_side(
+            self.config,
+            pair,
+            &mut self.pass,
+            shared,
+            &mut self.kept.backs[side as usize],
+        )
     }
 
     /// Looks at the mark of each side whose driver hasn't told yet that it has no further packet, and says whether both have.
@@ -143,20 +144,11 @@ impl<'a> Ends<'a> {
         let mut items = Batch::new();
         let first = Mark::RxDone(side_pair(self.config, self.app, 0));
         let second = Mark::RxDone(side_pair(self.config, self.app, 1));
-        look(
-            &mut self.pass,
-            shared,
-            first,
-            &mut self.kept.seen0,
-            &mut items,
-        );
-        look(
-            &mut self.pass,
-            shared,
-            second,
-            &mut self.kept.seen1,
-            &mut items,
-        );
+        let seen = self.kept.seen;
+        self.kept.seen = [
+            look(&mut self.pass, shared, first, seen[0], &mut items),
+            look(&mut self.pass, shared, second, seen[1], &mut items),
+        ];
         have_told(&self.kept)
     }
 
@@ -237,7 +229,7 @@ impl<'a> Ends<'a> {
 fn have_told(kept: &Carried) -> bool
     ensures { result ≡ both (kept_in kept.now).seen }
 {
-    kept.seen0 && kept.seen1
+    kept.seen[0] && kept.seen[1]
 }
 
 /// Ends may be sent to another thread.

@@ -97,23 +97,24 @@ pub(crate) fn wake(
     }
 }
 
-/// Looks at the mark of a side that isn't seen yet, which is seen where it is 1.
+/// Whether a side's mark is 1, or was seen so before: then it isn't looked at.
 pub(crate) fn look(
     pass: &mut Counted,
     shared: &Shared,
     mark: Mark,
-    seen: &mut bool,
+    seen: bool,
     items: &mut Batch,
-)
+) -> bool
     requires belongs { Belongs shared.now pass.old }
     requires empty { items.old ≡ [] }
-    requires at { (o : Origin) × (k : AppKept) × (done : Script AppKept) × (later : ℕ → Script AppKept) × Looks o mark seen.old k done later pass.old }
+    requires at { (o : Origin) × (k : AppKept) × (done : Script AppKept) × (later : ℕ → Script AppKept) × Looks o mark seen k done later pass.old }
     ensures same { IsSamePass pass.old pass.new }
     ensures empty { items.new ≡ [] }
-    ensures goes_on { (o : Origin) (k : AppKept) (done : Script AppKept) (later : ℕ → Script AppKept) → Looks o mark seen.old k done later pass.old
-        → HasLooked o seen.old seen.new done later pass.new }
+    ensures goes_on { (o : Origin) (k : AppKept) (done : Script AppKept) (later : ℕ → Script AppKept) → Looks o mark seen k done later pass.old
+        → HasLooked o seen result done later pass.new }
 {
-    if !*seen {
-        *seen = look_at(pass, shared, mark, items) == 1;
+    if seen {
+        return true;
     }
+    look_at(pass, shared, mark, items) == 1
 }

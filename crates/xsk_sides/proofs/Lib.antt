@@ -10,3 +10,4 @@ pub mod Completed
 pub mod Steps
 pub mod Opening
 pub mod Journals
+pub mod Told

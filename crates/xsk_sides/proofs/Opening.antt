@@ -29,7 +29,7 @@ use Rattle.xsk_side.specs.declared.call.Call.{Call as SideCall}
 use Rattle.xsk_side.specs.declared.call.Call.TheVariants as a_side
 use Rattle.xsk_side.proofs.Lists.{number, gone}
 use Rattle.xsk_side.proofs.Rings.{entry, ring_here, ring_else}
-use Rattle.xsk_sides.specs.Sides.{entries, setting_of, base_entry, opening_calls}
+use Rattle.xsk_sides.specs.Sides.{entries, setting_of, base_entry, opening_calls, by_program}
 use Rattle.xsk_sides.proofs.Rings.{IsSame, side_ring}
 use Rattle.xsk_sides.proofs.Setting.{is_setting}
 use Rattle.xsk_sides.proofs.Items.{same_times}
@@ -51,10 +51,11 @@ abbrev pub fills_all : Geometry → ℕ → ℕ → ℕ → List Frame → List 
 fills_all g pool d zero frames past = past
 fills_all g pool d (suc pairs) frames past = fills_all g pool (d + 1) pairs (drop pool frames) (fills g pool d frames past)
 
-pub own_fills : (g : Geometry) (pool d pairs : ℕ) (frames : List Frame) (past : List SideEntry)
-    → side_own Program (fills_all g pool d pairs frames past) ≡ opening_calls g pool d pairs frames (side_own Program past)
-own_fills g pool d zero frames past = refl
-own_fills g pool d (suc pairs) frames past = own_fills g pool (d + 1) pairs (drop pool frames) (fills g pool d frames past)
+pub fills_of : (g : Geometry) (pool d pairs : ℕ) (frames : List Frame) (calls : List SideCall)
+    → fills_all g pool d pairs frames (map by_program calls) ≡ map by_program (opening_calls g pool d pairs frames calls)
+fills_of g pool d zero frames calls = refl
+fills_of g pool d (suc pairs) frames calls =
+    fills_of g pool (d + 1) pairs (drop pool frames) (submits g pool d frames ∷ reserves pool d ∷ calls)
 
 -- ---- the rings
 

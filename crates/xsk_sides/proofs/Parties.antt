@@ -12,15 +12,9 @@ use Rattle.xsk_side.specs.declared.call.Party.{Party}
 use Rattle.xsk_side.specs.declared.call.Party.TheVariants.{Program, Kernel}
 use Rattle.xsk_side.specs.declared.call.Call.{Call as SideCall}
 use Rattle.xsk_side.proofs.Bounds.{two_parties}
-use Rattle.xsk_sides.specs.Sides.{side_call, party_of, called, program_calls}
-use Rattle.xsk_sides.proofs.Rings.{pushed}
+use Rattle.xsk_sides.specs.Sides.{side_call, party_of, called, program_calls, pushed, both}
 
 -- ---- the calls of both
-
--- all callers' calls, behind earlier ones of both parties
-abbrev pub both : Config → List Entry → List SideEntry → List SideEntry
-both c [] past = past
-both c (e ∷ es) past = both c es (pushed (party_of c e.who) (side_call e.call e.reply) past)
 
 -- a call behind earlier ones of its party, or none
 abbrev pub behind : Option SideCall → List SideCall → List SideCall

@@ -1,5 +1,5 @@
 -- The rings of the object and those of two parties are the same behind each call, and each reply is one that the ring may give.
-use Rattle.std.proofs.Common.{◌≡◌, ℕ, zero, suc, ◌+◌, ◌-◌, ◌<◌, ◌≤◌, Bool, true, false, cond, nat_le, Option, Some, None, List, [], ◌∷◌, ◌++◌, length, take, drop, refl, sym, ap, ◌∙◌, subst, arith, ⊎_elim, inl, inr}
+use Rattle.std.proofs.Common.{◌≡◌, ℕ, zero, suc, ◌+◌, ◌-◌, ◌<◌, ◌≤◌, Bool, true, false, cond, nat_le, Some, List, [], ◌∷◌, ◌++◌, length, take, drop, refl, sym, ap, ◌∙◌, subst, arith, ⊎_elim, inl, inr}
 use Rattle.std.proofs.lemmas.List.{length-map, map-append, drop-map}
 use Rattle.std.proofs.lemmas.Bool.{cases_Bool}
 use Rattle.std.proofs.lemmas.Bool.Decides.{nat_tests}
@@ -22,7 +22,7 @@ use Rattle.xsk_side.specs.declared.call.Answer.TheVariants as an_answer
 use Rattle.xsk_side.specs.declared.call.Call.{Call as SideCall}
 use Rattle.xsk_side.specs.declared.call.Call.TheVariants as a_side
 use Rattle.xsk_side.proofs.Rings.{ring_else}
-use Rattle.xsk_sides.specs.Sides.{entries, desc_in, side_call}
+use Rattle.xsk_sides.specs.Sides.{entries, desc_in, side_call, pushed}
 
 abbrev pub side_ring : RingState → SideRing
 side_ring ring = record { out = entries ring.out; held = entries ring.held; room = ring.room }
@@ -157,10 +157,6 @@ may_reply size ring (Look m) side is = absurd (cc)
 -- what both make of the rings
 pub record IsSame (c : Config) (s : State) (past : List SideEntry) : Type 0 where
   pub rings : (r : Ring) → HasRing c r → side_at r past ≡ side_ring (ring_at c s r)
-
-abbrev pub pushed : Party → Option SideCall → List SideEntry → List SideEntry
-pushed who None past = past
-pushed who (Some call) past = record { who = who; call = call } ∷ past
 
 -- a call on a ring
 here : (size : ℕ) (ring : RingState) (call : Call) (r : Ring) → is_on r call ≡ true

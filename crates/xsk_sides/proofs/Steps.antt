@@ -40,8 +40,8 @@ use Rattle.xsk_side.specs.declared.call.Call.{Call as SideCall}
 use Rattle.xsk_side.specs.declared.call.Call.TheVariants as a_side
 use Rattle.xsk_side.proofs.Bounds.{two_parties}
 use Rattle.xsk_side.proofs.Rings.{rings_sound}
-use Rattle.xsk_sides.specs.Sides.{entries, desc_in, setting_of, side_call, party_of}
-use Rattle.xsk_sides.proofs.Rings.{IsSame, pushed, may_reply, same_step}
+use Rattle.xsk_sides.specs.Sides.{entries, desc_in, setting_of, side_call, party_of, pushed}
+use Rattle.xsk_sides.proofs.Rings.{IsSame, may_reply, same_step}
 use Rattle.xsk_sides.proofs.Items.{same_times}
 use Rattle.xsk_sides.proofs.Places.{has_ring, same_size, same_pair}
 use Rattle.xsk_sides.proofs.Parties.{own_here, own_else, one_party, producer_is, consumer_is}

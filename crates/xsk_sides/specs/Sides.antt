@@ -16,6 +16,7 @@ use Rattle.xsk_model.specs.declared.call.Call.TheVariants.{Reserve, Submit, Peek
 use Rattle.xsk_model.specs.declared.call.Reply.{Reply}
 use Rattle.xsk_model.specs.declared.call.Reply.TheVariants.{Granted, Full, Submitted, Items, Empty, Released}
 use Rattle.xsk_side.specs.Setting.{Setting}
+use Rattle.xsk_side.specs.Object.{Entry as SideEntry}
 use Rattle.xsk_side.specs.declared.setting.Pair.{Pair}
 use Rattle.xsk_side.specs.declared.setting.Socket.{Socket}
 use Rattle.xsk_side.specs.declared.call.Party.{Party}
@@ -85,7 +86,26 @@ opening_calls g pool d (suc pairs) frames calls =
     opening_calls g pool (d + 1) pairs (drop pool frames)
     (a_side.Submit (Fill d) (map (base_entry g) (take pool frames)) ∷ a_side.Reserve (Fill d) pool an_answer.Granted ∷ calls)
 
--- ---- what a recording of all applications has, from the opening on
+-- ---- from the opening on
 
+abbrev pub opened_calls : Config → List Frame → List SideCall
+opened_calls c frames = opening_calls c.geometry (pool_of c) 0 (length c.pairs) frames []
+
+-- what a recording of all applications has
 abbrev pub recorded : Config → List Frame → List Entry → List SideCall
-recorded c frames h = program_calls c h (opening_calls c.geometry (pool_of c) 0 (length c.pairs) frames [])
+recorded c frames h = program_calls c h (opened_calls c frames)
+
+-- both parties' calls
+abbrev pub pushed : Party → Option SideCall → List SideEntry → List SideEntry
+pushed who None past = past
+pushed who (Some call) past = record { who = who; call = call } ∷ past
+
+abbrev pub both : Config → List Entry → List SideEntry → List SideEntry
+both c [] past = past
+both c (e ∷ es) past = both c es (pushed (party_of c e.who) (side_call e.call e.reply) past)
+
+abbrev pub by_program : SideCall → SideEntry
+by_program call = record { who = Program; call = call }
+
+abbrev pub of_two : Config → List Frame → List Entry → List SideEntry
+of_two c frames h = both c h (map by_program (opened_calls c frames))

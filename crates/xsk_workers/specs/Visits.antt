@@ -1,5 +1,5 @@
 -- What came of a hand's steps, each of which it makes on the value of its lock.
-use Rattle.std.specs.Prelude.{◌≡◌, ℕ, ◌<◌, ◌==◌, bit_and, Bool, true}
+use Rattle.std.specs.Prelude.{◌≡◌, ℕ, ◌<◌, ◌≤◌, bit_and, Bool, true}
 use Rattle.xsk_lock.specs.Held.{Face}
 use Rattle.xsk_shared_ends.specs.declared.visiting.Step.{Step}
 use Rattle.xsk_shared_ends.specs.declared.visiting.Step.TheVariants as step
@@ -22,9 +22,9 @@ together Full Full = Full
 together Full Moved = Moved
 together Moved other = Moved
 
--- a hand's share has the lanes whose number has the hand's in the bits of its mask
+-- a share has the lanes whose number has one of its places in the bits of its mask
 abbrev pub Has : Share → ℕ → Type 0
-Has share lane = (bit_and lane share.mask == share.hand) ≡ true
+Has share lane = (share.first ≤ bit_and lane share.mask) × (bit_and lane share.mask < share.past)
 
 module _ {T N : Type 0} (name : T → N) (lock : Face N) where
   -- a step was made on the lock's value, and this came of it

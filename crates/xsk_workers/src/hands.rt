@@ -15,42 +15,57 @@ use xsk_lock::{Hand, Lock};
 use xsk_shared_ends::Step;
 use xsk_table::Shared;
 
-/// Which lanes a hand visits, of so many: those whose number has the hand's in the bits of the mask. For the gate the hands of its
-/// application are numbered from a base on.
+/// Which lanes a hand visits, of so many: those whose number has one of its places in the bits of the mask. It has the places from the
+/// first on, up to those past it. For the gate the hands of its application are numbered from a base on.
 #[derive(Clone, Copy)]
 pub(crate) struct Share {
-    pub(crate) hand: u32,
+    first: u32,
+    past: u32,
     mask: u32,
     pub(crate) lanes: u32,
     base: u32,
 }
 
 impl Share {
-    /// The share of one hand for all lanes.
-    pub(crate) fn whole(lanes: u32, base: u32) -> Share
+    /// The share of all of so many hands, a power of 2. The place of each is its number.
+    pub(crate) fn whole(lanes: u32, hands: u32, base: u32) -> Share
         ensures { result.lanes ≡ lanes }
     {
         Share {
-            hand: 0,
-            mask: 0,
+            first: 0,
+            past: hands,
+            mask: hands.saturating_sub(1),
             lanes,
             base,
         }
     }
 
-    /// The shares of two hands in place of one: each has every other of its lanes.
-    pub(crate) fn halves(self) -> (Share, Share)
-        ensures lanes { (result.0.lanes ≡ self.lanes) × (result.1.lanes ≡ self.lanes) }
+    /// That of the hand of this number.
+    pub(crate) fn of_one(self, number: u32) -> Share
+        ensures { result.lanes ≡ self.lanes }
     {
-        let mask = self.mask << 1 | 1;
-        let hand = self.hand | (mask ^ self.mask);
-        (Share { mask, ..self }, Share { hand, mask, ..self })
+        Share {
+            first: number,
+            past: number.saturating_add(1),
+            ..self
+        }
+    }
+
+    /// That of the hands from this number on.
+    pub(crate) fn from(self, number: u32) -> Share
+        ensures { result.lanes ≡ self.lanes }
+    {
+        Share {
+            first: number,
+            ..self
+        }
     }
 
     fn has(self, lane: u32) -> bool
         ensures { (result ≡ true) ↔ Has self lane }
     {
-        lane & self.mask == self.hand
+        let place = lane & self.mask;
+        self.first <= place && place < self.past
     }
 }
 
@@ -251,7 +266,7 @@ pub(crate) fn run<T: Works, R: Wait, G: Gate>(
     ensures ended { HasEnded T.name lock.now T.lane_came T.marks_told share }
 {
     let mut hand = hand;
-    let number = share.base.saturating_add(share.hand);
+    let number = share.base.saturating_add(share.first);
     let mut pauses = Pauses::shared();
     let mut told = false;
     let mut count = 0u64;

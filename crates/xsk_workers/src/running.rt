@@ -8,7 +8,7 @@ use crate::passing::Passed;
 use crate::patience::Patience;
 use crate::pauses::Pauses;
 use crate::runner::{Opens, Turns};
-use crate::teams::share_ends;
+use crate::sharing::share_ends;
 use std::snapshot::Snapshot;
 use std::sync::Wait;
 use std::sync::atomic::{AtomicU64, Ordering};
