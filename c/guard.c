@@ -26,14 +26,17 @@ static void touched(int number, siginfo_t *info, void *context)
 	signal(number, SIG_DFL); /* it comes again, at the same line */
 }
 
+bool guards;
+
 void guard_set_up(void)
 {
 	struct sigaction action = {.sa_sigaction = touched, .sa_flags = SA_SIGINFO};
+	guards = settings.guard || __asan_poison_memory_region;
 	if (settings.guard && !__asan_poison_memory_region)
 		sigaction(SIGSEGV, &action, NULL);
 }
 
-void guard(struct xsk_umem *u, uint32_t chunk, bool own)
+void guard_chunk(struct xsk_umem *u, uint32_t chunk, bool own)
 {
 	char *at = u->area + (size_t)chunk * u->config.frame_size;
 	if (__asan_poison_memory_region) {

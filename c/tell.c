@@ -51,14 +51,12 @@ static void tell_holder(const struct xsk_umem *u, uint64_t address)
 	fprintf(stderr, " at %s:%d, call %llu\n", c->since.file, c->since.line, (unsigned long long)c->call);
 }
 
-/* Whether a call was made. One that isn't legal is told, with the address that makes it so, if one does (else -1), and ends the program. */
-bool legal(struct side *s, const char *call, uint32_t n, uint32_t answer, int64_t address)
+/* Tells of a call that wasn't made; it is false. */
+bool refused(struct side *s, const char *call, uint32_t n, uint32_t answer, int64_t address)
 {
 	struct xsk_umem *u = s->umem;
 	uint8_t why[160];
 	uint64_t len = 0;
-	if (answer == XSK_C_DONE)
-		return true;
 	if (xsk_c_why(answer, why, sizeof why, &len) != XSK_C_DONE)
 		len = 0;
 	if (answer < XSK_C_NO_CALLER)

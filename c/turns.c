@@ -17,6 +17,7 @@ struct settings settings;
 static pthread_mutex_t lock = PTHREAD_RECURSIVE_MUTEX_INITIALIZER_NP; /* a handler of a signal may end the program in a call */
 static pthread_cond_t entered = PTHREAD_COND_INITIALIZER;
 static pthread_key_t known_threads;
+static _Thread_local bool is_known; /* the thread is counted */
 static pthread_once_t once = PTHREAD_ONCE_INIT;
 static uint32_t threads, waiting;
 static uint64_t entries, random_state;
@@ -29,6 +30,7 @@ static void thread_ends(void *known)
 {
 	(void)known;
 	pthread_mutex_lock(&lock);
+	is_known = false;
 	threads--;
 	__atomic_store_n(&xsk_model_pauses, settings.seeded && threads > 1, __ATOMIC_RELAXED);
 	pthread_mutex_unlock(&lock);
@@ -120,7 +122,8 @@ void enter(struct xsk_umem *u)
 {
 	pthread_mutex_lock(&lock);
 	entries++;
-	if (!pthread_getspecific(known_threads)) {
+	if (!is_known) {
+		is_known = true;
 		pthread_setspecific(known_threads, &lock);
 		threads++;
 		__atomic_store_n(&xsk_model_pauses, settings.seeded && threads > 1, __ATOMIC_RELAXED);

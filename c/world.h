@@ -132,12 +132,23 @@ bool is_ending(void);
 void read_settings(void);
 /* tell.c */
 bool named_in(const char *variable, const char *name, char *out, size_t len);
-bool legal(struct side *s, const char *call, uint32_t n, uint32_t answer, int64_t address);
+bool refused(struct side *s, const char *call, uint32_t n, uint32_t answer, int64_t address);
+/* Whether a call was made. One that isn't legal is told, with the address that makes it so, if one does (else -1), and ends the program. */
+static inline bool legal(struct side *s, const char *call, uint32_t n, uint32_t answer, int64_t address)
+{
+	return answer == XSK_C_DONE || refused(s, call, n, answer, address);
+}
 const char *name_of(const struct side *s);
 void write_all(void);
 void tell_end(struct xsk_umem *u);
 /* guard.c: chunks that the program doesn't have can't be touched, with the address sanitizer or XSK_GUARD. */
-void guard(struct xsk_umem *u, uint32_t chunk, bool own);
+extern bool guards; /* whether one of them is there */
+void guard_chunk(struct xsk_umem *u, uint32_t chunk, bool own);
+static inline void guard(struct xsk_umem *u, uint32_t chunk, bool own)
+{
+	if (guards)
+		guard_chunk(u, chunk, own);
+}
 void guard_set_up(void);
 
 #endif
