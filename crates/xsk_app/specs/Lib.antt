@@ -1,4 +1,5 @@
 pub mod Frames
+pub mod Gives
 pub mod Resumed
 pub mod Runs
 pub mod Shown
