@@ -4,10 +4,10 @@
 mod first;
 mod judge;
 mod known;
-mod marks;
+mod following;
 mod queue;
 mod why;
 
 pub use judge::Judge;
-pub use known::{Known, Place, Spot};
+pub use known::{Known, Whereabouts, Spot};
 pub use why::{Denial, Rule, Why};
