@@ -1,4 +1,5 @@
-//! The check of a recording: it is read in pieces of any size, and each call is judged, and noted for the hints.
+//! The check of a recording: it is read in pieces of any size, and each call is judged, and noted for the hints. However
+//! a file is cut into pieces the verdict is that of all its bytes (`specs/Checking`).
 ghost use Rattle.std.specs.Prelude.{◌≡◌, ◌≢◌, ◌+◌, ◌<◌, ◌++◌, ◌∷◌, [], ℕ, List, IfErr, IfOk, OnOk, None, Some, length};
 ghost use Rattle.xsk_recording.specs.Text.{Beside, Read};
 ghost use Rattle.xsk_recording.specs.Counts.{IsCounted};
