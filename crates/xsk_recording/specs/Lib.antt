@@ -1,10 +1,10 @@
 -- The text of a recording. To read in this order:
 -- Text: its lines. Header, Line: a line of each kind. Verdict: what a text deserves. Laws.
--- For code: Heads, Views, Readers, Feeding, Counts.
+-- For code: HeaderFields, Views, Readers, Feeding, Counts.
 pub mod Line
 pub mod Views
 pub mod Header
-pub mod Heads
+pub mod HeaderFields
 pub mod Text
 pub mod Feeding
 pub mod Readers
