@@ -5,7 +5,7 @@ use Rattle.std.proofs.lemmas.List.{drop-append-le, length-replicate, map-append}
 use Rattle.std.proofs.lemmas.List.Concat.{flat_map-append}
 use Rattle.std.proofs.lemmas.List.Elements.{All-nil, All-cons, All-append, All-weaker}
 use Rattle.std.proofs.lemmas.List.Sums.{fold_push}
-use Rattle.xsk_turns.proofs.Object.{Geometry, Frame, Config, classes_of, is_ring, times, number_of, numbers, Packet, whole, bad, items_of, packets, packets_from, rest, rest_from, whole_packets, submitted, taken, Sending, had_of, is_on, is_fill_peek, fill_step, is_from_fill, peeked_step, peeked_of, completed_by, waiting, tx_work_after, tx_work_of, IsLegal, Fits, AreFresh, OwnGoesOn, completed_in, submitted_of, submitted_step}
+use Rattle.xsk_turns.proofs.Object.{Geometry, Frame, Config, classes_of, is_ring, times, number_of, numbers, Packet, whole, bad, items_of, packets, packets_from, rest, rest_from, whole_packets, submitted, taken, TxWork, had_of, is_on, is_fill_peek, fill_step, is_from_fill, peeked_step, peeked_of, completed_by, waiting, tx_work_after, tx_work_of, IsLegal, Fits, AreFresh, OwnGoesOn, completed_in, submitted_of, submitted_step}
 use Rattle.xsk_turns.proofs.Calls.{Item, Told, with_told, Ring, Fill, Comp, Tx, Call, Submit, Peek, Reply, Items}
 use Rattle.xsk_model.proofs.Counting.{times-append, times-flat_map-set}
 use Rattle.xsk_model.proofs.Completions.{own_kept, times-numbers-append}
@@ -130,7 +130,7 @@ from_fill-none : (n : ℕ) (l : List Told) (call : Call) (reply : Reply) → tim
 from_fill-none n l call reply none =
     from_fill-push n l call reply ∙ ap (λ (m : ℕ). cond (nat_lt 0 m) (is_fill_peek call) (is_from_fill n l)) none
 
-cond_waits : (b : Bool) (c : Config) (u : Sending) (items : List Item) → items ≡ [] → waiting c (cond b (record u { peeked = u.peeked ++ items }) u) ≡ waiting c u
+cond_waits : (b : Bool) (c : Config) (u : TxWork) (items : List Item) → items ≡ [] → waiting c (cond b (record u { peeked = u.peeked ++ items }) u) ≡ waiting c u
 cond_waits true c u items none = ap (λ (xs : List Item). drop u.completed (whole_packets (packets c.geometry c.sg xs))) (ap (λ (ys : List Item). u.peeked ++ ys) none ∙ append-nil u.peeked)
 cond_waits false c u items none = refl
 
@@ -168,7 +168,7 @@ has_told c pair kept call reply l h legal fits none = record {
   waits = λ class within.
       let s = socket_at_class c pair class in
       waits_after c s l call reply (of_class class h.queue.origins kept.finished) none (h.queue.waits class within)
-      ∙ ap (λ (u : Sending). waiting c u) (sym (tx_work_of-push c s l (record { call = call; reply = reply })));
+      ∙ ap (λ (u : TxWork). waiting c u) (sym (tx_work_of-push c s l (record { call = call; reply = reply })));
 }
 
 -- ---- the items of a Peek on FILL
@@ -232,7 +232,7 @@ has_fill c pair k kept items l h legal fits some news =
       known = h.queue.known;
       waits = λ class within.
           let s = socket_at_class c pair class in
-          h.queue.waits class within ∙ ap (λ (u : Sending). waiting c u) (sym (tx_work_of-push c s l t));
+          h.queue.waits class within ∙ ap (λ (u : TxWork). waiting c u) (sym (tx_work_of-push c s l t));
     }
 
 -- ---- the items of a Peek on TX
@@ -276,7 +276,7 @@ further_items n g sg peeked items =
 pub sockets_apart : (c : Config) (pair i j : ℕ) → (i ≡ j → ⊥) → socket_at_class c pair i ≡ socket_at_class c pair j → ⊥
 sockets_apart c pair i j apart e = apart (omega (arith, e))
 
-waits_peeked : (c : Config) (u : Sending) (items : List Item) → u.completed ≤ length (wholes c u)
+waits_peeked : (c : Config) (u : TxWork) (items : List Item) → u.completed ≤ length (wholes c u)
     → waiting c (record u { peeked = u.peeked ++ items }) ≡ waiting c u ++ more_wholes c u.peeked items
 waits_peeked c u items within =
     ap (λ (ws : List (List Item)). drop u.completed ws) (wholes-append c u.peeked items)
@@ -341,7 +341,7 @@ has_tx wire c pair class k kept items l seat within h legal fresh =
     ∙ ap (λ (ws : List (List Item)). waiting c u ++ ws) news
     ∙ sym (waits_peeked c u items ((own_kept c pair seat.known l h.own).within s))
     ∙ ap (λ (b : Bool). waiting c (cond b (record u { peeked = u.peeked ++ items }) u)) (sym (is_ring-self (Tx s)))
-    ∙ ap (λ (v : Sending). waiting c v) (sym (tx_work_of-push c s l t)) in
+    ∙ ap (λ (v : TxWork). waiting c v) (sym (tx_work_of-push c s l t)) in
     record {
       own = own_push c pair [] l t h.own legal fresh;
       frames = λ n.
@@ -391,6 +391,6 @@ has_tx wire c pair class k kept items l seat within h legal fresh =
           ∙ append-nil (of_class other h.queue.origins kept.finished)
           ∙ h.queue.waits other below
           ∙ ap (λ (b : Bool). waiting c (cond b (record v { peeked = v.peeked ++ items }) v)) (sym (ne_eqb (socket_at_class c pair other) s (sockets_apart c pair other class e)))
-          ∙ ap (λ (w : Sending). waiting c w) (sym (tx_work_of-push c (socket_at_class c pair other) l t)))
+          ∙ ap (λ (w : TxWork). waiting c w) (sym (tx_work_of-push c (socket_at_class c pair other) l t)))
           (cases_eq other class);
     }
