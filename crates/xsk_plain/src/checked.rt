@@ -1,4 +1,6 @@
-//! The object on one thread, with a standing for each caller that tells which of its calls are legal.
+//! The object on one thread, with a standing for each caller that tells which of its calls are legal. A call is made
+//! where the caller's standing allows it, and noted there, so the log is one legal history (`specs/Checked`, the
+//! invariant).
 use crate::noting::{new_standings, serve_noted};
 use crate::plain::{OpenRefused, Plain};
 use std::alloc::Global;

@@ -1,4 +1,5 @@
-//! The object on one thread, as other crates use it.
+//! The object on one thread, as other crates use it. A call that can be made at all (`CanPerform`) has the object's
+//! reply and leaves the object's state (`specs/Steps`); whether it is legal is its caller's to know.
 ghost use Rattle.std.specs.Prelude.{◌≡◌, ◌+◌, ◌*◌, ◌<◌, ◌≤◌, [], ◌∷◌, ◌++◌, ◌↔◌, length, slice_get, Some, OnOk, IfOk, IfErr, IsTrue};
 ghost use Rattle.std.specs.Option.{option_map};
 ghost use Rattle.xsk_umem.specs.declared.batch.Item.{Item as AnItem};

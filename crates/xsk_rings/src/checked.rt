@@ -1,4 +1,5 @@
-//! A pass that tells which of its caller's calls are legal.
+//! A pass that tells which of its caller's calls are legal. Each call is noted (`specs/Checked`, the invariant), so
+//! `allows` is exact.
 ghost use Rattle.std.specs.Prelude.{◌≡◌, ◌+◌, ◌<◌, ◌≤◌, ◌↔◌, List, [], IfOk, IfErr, IsTrue};
 ghost use Rattle.xsk_umem.specs.declared.batch.Item.{Item as Thing};
 ghost use Rattle.xsk_model.specs.Asks.{joined_call, joined_reply, HasAsked, HasAnswered};
