@@ -1,4 +1,6 @@
-//! The application's machine: it makes one call, waits for the reply, and goes on by it.
+//! The application's machine: it makes one call, waits for the reply, and goes on by it. A call is given where the
+//! script has it (`xsk_turns/specs/AppTurns`), so a new one is written there first; that code and script agree is said
+//! in `specs/Stands` and `specs/Runs`.
 //!
 //! ```text
 //! close  LowerCell ──> TellClosing ──> lanes                       cell by cell, where the socket is to be closed, once

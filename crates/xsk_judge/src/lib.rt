@@ -2,6 +2,7 @@
 #![tactic(auto)]
 
 mod first;
+mod following;
 mod judge;
 mod known;
 mod following;

@@ -6,7 +6,7 @@ ghost use Rattle.xsk_umem.specs.Geometry.{IsGeometry};
 ghost use Rattle.xsk_model.specs.Config.{IsRegular, callers_of, classes_of};
 ghost use Rattle.xsk_model.specs.Opening.{AreFrames, IsOpened};
 ghost use Rattle.xsk_umem.specs.Frame.{Frame};
-ghost use Rattle.xsk_log.specs.Left.{left_of};
+ghost use Rattle.xsk_log.specs.Left.{left_of, pairs_of};
 ghost use Rattle.xsk_log.specs.Log.{calls_of, entries_of};
 ghost use Rattle.xsk_turns.specs.Mangling.{plain as plain_manner};
 ghost use Rattle.xsk_prog.specs.declared.rule.Verdict.{Verdict as AVerdict};
@@ -118,7 +118,7 @@ impl Run {
 
     /// Goes over all calls with their replies.
     pub(crate) fn lines(&self) -> Lines<'_>
-        ensures pairs { result.pairs ≡ self.now.pairs }
+        ensures pairs { pairs_of result ≡ self.now.pairs }
         ensures all { left_of result ≡ self.now.log }
     {
         self.plain.lines()
@@ -148,6 +148,17 @@ impl Run {
     {
         self.sent.sent(pair)
     }
+}
+
+/// The terms of a run: the packets of each port, the wire, the number of the rounds' order, the applications' manner, and where memory
+/// is had.
+#[derive(Clone, Copy)]
+struct Terms<'a> {
+    alloc: Global,
+    packets: &'a [PacketList],
+    wire: Wire,
+    order: u32,
+    manner: Manner,
 }
 
 /// A run has stalled after so many rounds in which nothing changed.
@@ -230,9 +241,14 @@ pub fn simulate_with_object<F: Fn(&[u8], u32) -> Verdict>(
     ensures goes_on { HasAmpleRoom config → config.closing ≡ None → manner ≡ plain_manner → (round : ℕ) (plain : AnEngine) (counters : CounterVec)
         → result ≡ Err (Unended.Stalled round plain counters) → ⊥ }
 {
-    let (plain, sent) = run_on::<F, Plain>(
-        alloc, config, frames, packets, chain, wire, order, manner,
-    )?;
+    let terms = Terms {
+        alloc,
+        packets,
+        wire,
+        order,
+        manner,
+    };
+    let (plain, sent) = run_on::<F, Plain>(terms, config, frames, chain)?;
     Ok(Run { plain, sent })
 }
 
@@ -261,7 +277,14 @@ pub fn simulate_unlogged<F: Fn(&[u8], u32) -> Verdict>(
         → HasStalledUnder F.Fn chain.old chain.new wire manner config packets.now frames.items order round }
     ensures goes_on { HasAmpleRoom config → config.closing ≡ None → manner ≡ plain_manner → (round : ℕ) → result ≡ Err (SimError.Stalled round) → ⊥ }
 {
-    match run_on::<F, Unlogged>(alloc, config, frames, packets, chain, wire, order, manner) {
+    let terms = Terms {
+        alloc,
+        packets,
+        wire,
+        order,
+        manner,
+    };
+    match run_on::<F, Unlogged>(terms, config, frames, chain) {
         Ok((_object, sent)) => Ok(sent),
         Err(Unended::Stalled { round, .. }) => Err(SimError::Stalled { round }),
         Err(Unended::OutOfMemory) => Err(SimError::OutOfMemory),
@@ -269,104 +292,91 @@ pub fn simulate_unlogged<F: Fn(&[u8], u32) -> Verdict>(
 }
 
 /// The run of `simulate` on an object with or without a log.
-#[allow(clippy::too_many_arguments)]
 fn run_on<F: Fn(&[u8], u32) -> Verdict, S: Server + Drop>(
-    alloc: Global,
+    terms: Terms<'_>,
     config: Config,
     frames: Frames,
-    packets: &[PacketList],
     chain: &mut Chain<F>,
-    wire: Wire,
-    order: u32,
-    manner: Manner,
 ) -> Result<(S, Sent), Unended<S>>
     requires regular { IsRegular config }
     requires frames { AreFrames config.geometry frames.items }
-    requires lists { length packets.now ≡ config.ports }
-    requires short { All HasShortPackets packets.now }
+    requires lists { length terms.packets.now ≡ config.ports }
+    requires short { All HasShortPackets terms.packets.now }
     requires obeys { AllObey F.Fn chain.old }
     ensures same { SamePrograms chain.old chain.new }
     ensures obeys { AllObey F.Fn chain.new }
     ensures pairs { IfOk result (λ ran. (length ran.1.lists ≡ length config.pairs) × ((S.seen ran.0).engine.config ≡ config)) }
-    ensures ended { IfOk result (λ ran. (run : Shown) × HasEndedUnder F.Fn chain.old chain.new wire manner config packets.now frames.items order run × IsShownBy (S.seen ran.0) ran.1 run) }
+    ensures ended { IfOk result (λ ran. (run : Shown) × HasEndedUnder F.Fn chain.old chain.new terms.entry.wire terms.entry.manner config terms.entry.packets.now frames.items terms.entry.order run × IsShownBy (S.seen ran.0) ran.1 run) }
     ensures stalled { (round : ℕ) (object : S) (counters : CounterVec) → result ≡ Err (Unended.Stalled round object counters)
-        → HasStalledOnUnder F.Fn chain.old chain.new wire manner config packets.now frames.items order round (S.seen object) counters.items }
-    ensures goes_on { HasAmpleRoom config → config.closing ≡ None → manner ≡ plain_manner → (round : ℕ) (object : S) (counters : CounterVec)
+        → HasStalledOnUnder F.Fn chain.old chain.new terms.entry.wire terms.entry.manner config terms.entry.packets.now frames.items terms.entry.order round (S.seen object) counters.items }
+    ensures goes_on { HasAmpleRoom config → config.closing ≡ None → terms.entry.manner ≡ plain_manner → (round : ℕ) (object : S) (counters : CounterVec)
         → result ≡ Err (Unended.Stalled round object counters) → ⊥ }
 {
-    let Ok(shared) = config.copy(alloc) else {
+    let Ok(shared) = config.copy(terms.alloc) else {
         return Err(Unended::OutOfMemory);
     };
-    let Ok(inputs) = Inputs::split(alloc, &shared, packets) else {
+    let Ok(inputs) = Inputs::split(terms.alloc, &shared, terms.packets) else {
         return Err(Unended::OutOfMemory);
     };
-    let Ok(workers) = all_workers(alloc, &shared, packets, &inputs, chain, wire, manner) else {
+    let Ok(workers) = all_workers(terms, &shared, &inputs, chain) else {
         return Err(Unended::OutOfMemory);
     };
     let _geometry = shared.geometry();
-    run_workers::<S>(
-        alloc,
-        workers,
-        config,
-        frames,
-        shared.classes(),
-        wire,
-        manner,
-        Order::new(order),
-    )
+    run_workers::<S>(terms, workers, config, frames)
 }
 
 /// All workers in their seats: the drivers of all pairs, for whose packets the chain was asked, and the applications.
 fn all_workers<'a, F: Fn(&[u8], u32) -> Verdict>(
-    alloc: Global,
+    terms: Terms<'a>,
     config: &'a Config,
-    packets: &'a [PacketList],
     inputs: &'a Inputs,
     chain: &mut Chain<F>,
-    wire: Wire,
-    manner: Manner,
 ) -> Result<Workers<'a>, OutOfMemory>
     requires regular { IsRegular config.now }
-    requires lists { length packets.now ≡ config.now.ports }
-    requires inputs { inputs.now ≡ inputs_of config.now packets.now }
-    requires short { All HasShortPackets packets.now }
+    requires lists { length terms.packets.now ≡ config.now.ports }
+    requires inputs { inputs.now ≡ inputs_of config.now terms.packets.now }
+    requires short { All HasShortPackets terms.packets.now }
     requires obeys { AllObey F.Fn chain.old }
     ensures set { IfOk result (λ workers. (verdicts : List (List AVerdict))
-        × HasGiven F.Fn config.now packets.now verdicts chain.old chain.new
-        × AreGiven (IsAnswer F.Fn chain.old) (setting_by config.now wire manner packets.now verdicts)
-        × AreSet (setting_by config.now wire manner packets.now verdicts) workers) }
+        × HasGiven F.Fn config.now terms.entry.packets.now verdicts chain.old chain.new
+        × AreGiven (IsAnswer F.Fn chain.old) (setting_by config.now terms.entry.wire terms.entry.manner terms.entry.packets.now verdicts)
+        × AreSet (setting_by config.now terms.entry.wire terms.entry.manner terms.entry.packets.now verdicts) workers) }
     ensures same { SamePrograms chain.old chain.new }
     ensures obeys { AllObey F.Fn chain.new }
 {
+    let Terms {
+        alloc,
+        packets,
+        wire,
+        manner,
+        ..
+    } = terms;
     let drivers = drivers_for(alloc, config, packets, inputs, chain, wire)?;
     seat_workers(alloc, config, drivers, manner)
 }
 
 /// Opens the object, and lets the workers run on it until all have ended.
-#[allow(clippy::too_many_arguments)]
 fn run_workers<S: Server + Drop>(
-    alloc: Global,
+    terms: Terms<'_>,
     workers: Workers<'_>,
     config: Config,
     frames: Frames,
-    classes: u32,
-    wire: Wire,
-    manner: Manner,
-    order: Order,
 ) -> Result<(S, Sent), Unended<S>>
+    requires regular { IsRegular config }
     requires opened { IsOpened config frames.items }
     requires set { (s : Setting) × (s.config ≡ config) × AreSet s workers }
     ensures pairs { IfOk result (λ ran. (length ran.1.lists ≡ length config.pairs) × ((S.seen ran.0).engine.config ≡ config)) }
     ensures ended { (s : Setting) → s.config ≡ config → IsRegular s.config → AreSet s workers.entry
-        → classes ≡ classes_of s.config → wire ≡ s.wire → manner ≡ s.manner
-        → IfOk result (λ ran. (run : Shown) × HasEnded s frames.items order.number run × IsShownBy (S.seen ran.0) ran.1 run) }
-    ensures stalled { (s : Setting) (round : ℕ) (object : S) (counters : CounterVec) → s.config ≡ config → AreSet s workers.entry → classes ≡ classes_of s.config
-        → result ≡ Err (Unended.Stalled round object counters) → HasStalledOn s frames.items order.number round (S.seen object) counters.items }
+        → terms.entry.wire ≡ s.wire → terms.entry.manner ≡ s.manner
+        → IfOk result (λ ran. (run : Shown) × HasEnded s frames.items terms.entry.order run × IsShownBy (S.seen ran.0) ran.1 run) }
+    ensures stalled { (s : Setting) (round : ℕ) (object : S) (counters : CounterVec) → s.config ≡ config → AreSet s workers.entry
+        → result ≡ Err (Unended.Stalled round object counters) → HasStalledOn s frames.items terms.entry.order round (S.seen object) counters.items }
 {
-    let Ok(mut server) = S::open(alloc, config, frames) else {
+    let classes = config.classes();
+    let Ok(mut server) = S::open(terms.alloc, config, frames) else {
         return Err(Unended::OutOfMemory);
     };
-    match run_to_end(alloc, workers, &mut server, classes, wire, manner, order) {
+    match run_to_end(terms, workers, &mut server, classes) {
         Ok(sent) => Ok((server, sent)),
         Err(Stopped::Stalled { round, counters }) => Err(Unended::Stalled {
             round,
@@ -379,33 +389,30 @@ fn run_workers<S: Server + Drop>(
 
 /// Makes rounds until all workers have ended, and collects what the drivers sent and their figures.
 fn run_to_end<S: Server>(
-    alloc: Global,
+    terms: Terms<'_>,
     workers: Workers<'_>,
     server: &mut S,
     classes: u32,
-    wire: Wire,
-    manner: Manner,
-    order: Order,
 ) -> Result<Sent, Stopped>
     requires geometry { IsGeometry (S.seen server.old).engine.config.geometry }
     requires ready { AreReady workers (S.seen server.old) }
     ensures lists { (s : Setting) (frames : List Frame) → AreSeated s frames [] workers.entry (S.seen server.old)
         → IfOk result (λ sent. (length sent.lists ≡ length s.config.pairs) × ((S.seen server.new).engine.config ≡ s.config)) }
     ensures ended { (s : Setting) (frames : List Frame) → IsRegular s.config → AreSeated s frames [] workers.entry (S.seen server.old)
-        → classes ≡ classes_of s.config → wire ≡ s.wire → manner ≡ s.manner
-        → IfOk result (λ sent. (run : Shown) × HasEnded s frames order.number run × IsShownBy (S.seen server.new) sent run) }
+        → classes ≡ classes_of s.config → terms.entry.wire ≡ s.wire → terms.entry.manner ≡ s.manner
+        → IfOk result (λ sent. (run : Shown) × HasEnded s frames terms.entry.order run × IsShownBy (S.seen server.new) sent run) }
     ensures stalled { (s : Setting) (frames : List Frame) (round : ℕ) (counters : CounterVec) → AreSeated s frames [] workers.entry (S.seen server.old) → classes ≡ classes_of s.config
-        → result ≡ Err (Stopped.Stalled round counters) → HasStalledOn s frames order.number round (S.seen server.new) counters.items }
+        → result ≡ Err (Stopped.Stalled round counters) → HasStalledOn s frames terms.entry.order round (S.seen server.new) counters.items }
 {
     let mut workers = workers;
-    if let Err(error) = make_rounds(&mut workers, server, order) {
-        return Err(why_stopped(alloc, error, &workers, classes));
+    if let Err(error) = make_rounds(&mut workers, server, terms.order) {
+        return Err(why_stopped(terms.alloc, error, &workers, classes));
     }
     let calls = server.calls();
-    let Ok(kept) = collect(alloc, workers, classes) else {
+    let Ok(kept) = collect(terms.alloc, workers, classes) else {
         return Err(Stopped::OutOfMemory);
     };
-    Ok(kept.into_sent(calls, wire, manner.mangle.is_some()))
+    Ok(kept.into_sent(calls, terms.wire, terms.manner.mangle.is_some()))
 }
 
 /// Why there were no rounds to the end, with the counters of the drivers, each of whose queues has so many sockets.
@@ -426,22 +433,22 @@ fn why_stopped(alloc: Global, error: SimError, workers: &Workers<'_>, classes: u
 fn make_rounds<S: Server>(
     workers: &mut Workers<'_>,
     server: &mut S,
-    order: Order,
+    order: u32,
 ) -> Result<(), SimError>
     requires geometry { IsGeometry (S.seen server.old).engine.config.geometry }
     requires ready { AreReady workers.old (S.seen server.old) }
     ensures ended { (s : Setting) (frames : List Frame) → AreSeated s frames [] workers.old (S.seen server.old)
-        → OnOk result ((count : ℕ) × (count ≤ 18446744073709551616) × HadRounds s frames order.number count workers.new (S.seen server.new) × HaveEnded workers.new
-        × NeverStill s frames order.number count) }
+        → OnOk result ((count : ℕ) × (count ≤ 18446744073709551616) × HadRounds s frames order count workers.new (S.seen server.new) × HaveEnded workers.new
+        × NeverStill s frames order count) }
     ensures stalled { (s : Setting) (frames : List Frame) (round : ℕ) → AreSeated s frames [] workers.old (S.seen server.old)
         → result ≡ Err (SimError.Stalled round)
-        → (had : HadRounds s frames order.number (round + 1) workers.new (S.seen server.new)) × (HaveEnded workers.new → ⊥) × (round ≤ 18446744073709551615)
-        × StandStill s frames order.number 64 (round + 1) had.history × NeverStill s frames order.number round }
+        → (had : HadRounds s frames order (round + 1) workers.new (S.seen server.new)) × (HaveEnded workers.new → ⊥) × (round ≤ 18446744073709551615)
+        × StandStill s frames order 64 (round + 1) had.history × NeverStill s frames order round }
 {
-    let mut order = order;
+    let mut current = Order::new(order);
     let mut still = 0;
     for round in 0..u64::MAX {
-        let quiet = workers.round(server, &mut order)?;
+        let quiet = workers.round(server, &mut current)?;
         still = still_after(still, quiet);
         if workers.have_ended() {
             return Ok(());

@@ -12,7 +12,7 @@ invariant-loop-round g l = record {
   config : (g.S.Server.seen l.server).engine.config ≡ (g.S.Server.seen l.initial.server).engine.config;
   few : l.still < 64;
   rounds : (s : Setting) (frames : List Frame) → AreSeated s frames [] l.initial.workers (g.S.Server.seen l.initial.server)
-      → Gone s frames l.initial.order.number l.round l.still l.workers (g.S.Server.seen l.server) × (l.order.number ≡ number_at l.initial.order.number l.round)
-      × NeverStill s frames l.initial.order.number l.round;
+      → Gone s frames l.order l.round l.still l.workers (g.S.Server.seen l.server) × (l.current.number ≡ number_at l.order l.round)
+      × NeverStill s frames l.order l.round;
   going : 0 < l.round → HaveEnded l.workers → ⊥;
 }

@@ -1,5 +1,4 @@
 use Rattle.std.proofs.Common.{◌≡◌, ℕ, subst, refl, sym, Err}
-use Rattle.std.specs.Prelude.{IfOk}
 use Rattle.xsk_umem.specs.Geometry.{IsGeometry}
 use Rattle.xsk_model.specs.Config.{Config, IsConfig, IsRegular}
 use Rattle.xsk_turns.specs.Workers.{Setting, AreGiven}
@@ -26,7 +25,7 @@ run_workers-requires-clause-opened g c = record {
 pub run_workers-requires-clause-set : goal.run_workers-requires-clause-set
 run_workers-requires-clause-set g c =
     let set = c.in-Ok-all_workers.ensures.set in
-    (setting_by c.in-Ok.shared c.args.wire c.args.manner c.args.packets.now set.0, c.in-Ok.ensures, set.3)
+    (setting_by c.in-Ok.shared c.args.terms.wire c.args.terms.manner c.args.terms.packets.now set.0, c.in-Ok.ensures, set.3)
 
 pub returns-clause-pairs : goal.returns-clause-pairs
 returns-clause-pairs g c = c.run_workers.ensures.pairs
@@ -34,31 +33,30 @@ returns-clause-pairs g c = c.run_workers.ensures.pairs
 pub returns-clause-ended : goal.returns-clause-ended
 returns-clause-ended g c =
     let set = c.in-Ok-all_workers.ensures.set in
-    let s : Setting = setting_by c.in-Ok.shared c.args.wire c.args.manner c.args.packets.now set.0 in
-    if_ok c.run_workers.result (λ ran. (run : Shown) × HasEnded s c.args.frames.items c.args.order run × IsShownBy (g.S.Server.seen ran.0) ran.1 run) _
+    let s : Setting = setting_by c.in-Ok.shared c.args.terms.wire c.args.terms.manner c.args.terms.packets.now set.0 in
+    if_ok c.run_workers.result (λ ran. (run : Shown) × HasEnded s c.args.frames.items c.args.terms.order run × IsShownBy (g.S.Server.seen ran.0) ran.1 run) _
     (λ ran is. (
       is.0,
-      subst (λ (k : Config). HasEndedUnder g.F.Fn c.args.chain.now c.all_workers.new.chain c.args.wire c.args.manner k c.args.packets.now c.args.frames.items c.args.order is.0) c.in-Ok.ensures
+      subst (λ (k : Config). HasEndedUnder g.F.Fn c.args.chain.now c.all_workers.new.chain c.args.terms.wire c.args.terms.manner k c.args.terms.packets.now c.args.frames.items c.args.terms.order is.0) c.in-Ok.ensures
           (record { verdicts = set.0; once = set.1; asked = set.2; ended = is.1 }),
       is.2,
     ))
-    (subst (λ (number : ℕ). IfOk c.run_workers.result (λ ran. (run : Shown) × HasEnded s c.args.frames.items number run × IsShownBy (g.S.Server.seen ran.0) ran.1 run)) c.new.ensures
-    (c.run_workers.ensures.ended s c.in-Ok.ensures (subst IsRegular (sym c.in-Ok.ensures) c.requires.regular) set.3 c.classes.ensures refl refl))
+    (c.run_workers.ensures.ended s c.in-Ok.ensures (subst IsRegular (sym c.in-Ok.ensures) c.requires.regular) set.3 refl refl)
 
 -- a run that has stalled
 stalls : (g : given.Over) (c : goal.After-drop-shared-inside-4 g) (round : ℕ) (object : g.row.S.Denot) (counters : CounterVec) → c.run_workers.result ≡ Err (Stalled round object counters)
-    → HasStalledOn (setting_by c.args.config c.args.wire c.args.manner c.args.packets.now c.in-Ok-all_workers.ensures.set.0) c.args.frames.items c.args.order round (g.S.Server.seen object) counters.items
+    → HasStalledOn (setting_by c.args.config c.args.terms.wire c.args.terms.manner c.args.terms.packets.now c.in-Ok-all_workers.ensures.set.0) c.args.frames.items c.args.terms.order round (g.S.Server.seen object) counters.items
 stalls g c round object counters is =
     let set = c.in-Ok-all_workers.ensures.set in
-    let s : Setting = setting_by c.in-Ok.shared c.args.wire c.args.manner c.args.packets.now set.0 in
-    subst (λ (k : Config). HasStalledOn (setting_by k c.args.wire c.args.manner c.args.packets.now set.0) c.args.frames.items c.args.order round (g.S.Server.seen object) counters.items) c.in-Ok.ensures
-    (subst (λ (number : ℕ). HasStalledOn s c.args.frames.items number round (g.S.Server.seen object) counters.items) c.new.ensures (c.run_workers.ensures.stalled s round object counters c.in-Ok.ensures set.3 c.classes.ensures is))
+    let s : Setting = setting_by c.in-Ok.shared c.args.terms.wire c.args.terms.manner c.args.terms.packets.now set.0 in
+    subst (λ (k : Config). HasStalledOn (setting_by k c.args.terms.wire c.args.terms.manner c.args.terms.packets.now set.0) c.args.frames.items c.args.terms.order round (g.S.Server.seen object) counters.items) c.in-Ok.ensures
+    (c.run_workers.ensures.stalled s round object counters c.in-Ok.ensures set.3 is)
 
 pub returns-clause-goes_on : goal.returns-clause-goes_on
 returns-clause-goes_on g c ample closes whole round object counters is =
-    let s : Setting = setting_by c.args.config c.args.wire c.args.manner c.args.packets.now c.in-Ok-all_workers.ensures.set.0 in
+    let s : Setting = setting_by c.args.config c.args.terms.wire c.args.terms.manner c.args.terms.packets.now c.in-Ok-all_workers.ensures.set.0 in
     let on = stalls g c round object counters is in
-    none_stands_still s c.args.frames.items c.args.order round (record { regular = c.requires.regular; closes = closes }) ample whole (record { past = on.stalled.past; still = on.stalled.still })
+    none_stands_still s c.args.frames.items c.args.terms.order round (record { regular = c.requires.regular; closes = closes }) ample whole (record { past = on.stalled.past; still = on.stalled.still })
 
 pub returns-clause-stalled : goal.returns-clause-stalled
 returns-clause-stalled g c round object counters is =
@@ -66,8 +64,8 @@ returns-clause-stalled g c round object counters is =
     record {
       under = record {
         verdicts = c.in-Ok-all_workers.ensures.set.0;
-        once = subst (λ (k : Config). HasGiven g.F.Fn k c.args.packets.now c.in-Ok-all_workers.ensures.set.0 c.args.chain.now c.all_workers.new.chain) c.in-Ok.ensures c.in-Ok-all_workers.ensures.set.1;
-        asked = subst (λ (k : Config). AreGiven (IsAnswer g.F.Fn c.args.chain.now) (setting_by k c.args.wire c.args.manner c.args.packets.now c.in-Ok-all_workers.ensures.set.0)) c.in-Ok.ensures c.in-Ok-all_workers.ensures.set.2;
+        once = subst (λ (k : Config). HasGiven g.F.Fn k c.args.terms.packets.now c.in-Ok-all_workers.ensures.set.0 c.args.chain.now c.all_workers.new.chain) c.in-Ok.ensures c.in-Ok-all_workers.ensures.set.1;
+        asked = subst (λ (k : Config). AreGiven (IsAnswer g.F.Fn c.args.chain.now) (setting_by k c.args.terms.wire c.args.terms.manner c.args.terms.packets.now c.in-Ok-all_workers.ensures.set.0)) c.in-Ok.ensures c.in-Ok-all_workers.ensures.set.2;
         stalled = on.stalled;
       };
       run = on.run;
