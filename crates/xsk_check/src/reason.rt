@@ -6,7 +6,7 @@ ghost use Rattle.xsk_check.specs.Naming.{denial_since as since_by_denial, named_
 use crate::Blame;
 use std::alloc::{AllocError, Global};
 use std::fmt::Write;
-use xsk_judge::{Denial, Known, Whereabouts, Rule, Why};
+use xsk_judge::{Denial, Known, Rule, Whereabouts, Why};
 use xsk_model::Ring;
 use xsk_side::{Answer, Call, Setting};
 use xsk_umem::XdpDesc;

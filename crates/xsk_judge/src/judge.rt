@@ -237,7 +237,13 @@ impl Judge {
         if entries.len() > end.room as usize {
             return Err(Why::Rule(Rule::Places(end.room)));
         }
-        if let Err(rule) = following::give(self.frames.as_mut_slice(), setting, line, ring, entries) {
+        if let Err(rule) = following::give(
+            self.frames.as_mut_slice(),
+            setting,
+            line,
+            ring,
+            entries,
+        ) {
             return Err(Why::Rule(rule));
         }
         self.ends[at] = End {

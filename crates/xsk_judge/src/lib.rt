@@ -5,10 +5,9 @@ mod first;
 mod following;
 mod judge;
 mod known;
-mod following;
 mod queue;
 mod why;
 
 pub use judge::Judge;
-pub use known::{Known, Whereabouts, Spot};
+pub use known::{Known, Spot, Whereabouts};
 pub use why::{Denial, Rule, Why};

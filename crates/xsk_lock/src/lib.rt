@@ -17,4 +17,4 @@ mod view;
 
 pub use hand::Hand;
 pub use lock::{Lock, Refused};
-pub use view::{HandSplit, Facts, HandJoin, Key, Known, Law, LockStep, Named, UnlockStep};
+pub use view::{Facts, HandJoin, HandSplit, Key, Known, Law, LockStep, Named, UnlockStep};

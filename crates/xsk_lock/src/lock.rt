@@ -10,7 +10,7 @@ ghost use Rattle.xsk_lock.specs.Rule.{newcomer, mine, found};
 ghost use Rattle.xsk_lock.specs.Held.{Belongs, HasAll, IsOff, IsOn, new_hands};
 
 use crate::hand::Hand;
-use crate::view::{HandSplit, HandJoin, Key, Known, Law, LockStep, Named, UnlockStep};
+use crate::view::{HandJoin, HandSplit, Key, Known, Law, LockStep, Named, UnlockStep};
 use atomic_table::{Seat, Shared, Table};
 use std::alloc::Global;
 use std::marker::Model;
@@ -147,7 +147,9 @@ impl<T: Named> Lock<T> {
         ensures found { found hand.new.view ≡ found hand.old.view }
     {
         let Hand { seat } = other;
-        self.table.shared.join_seat::<HandJoin>(&mut hand.seat, seat);
+        self.table
+            .shared
+            .join_seat::<HandJoin>(&mut hand.seat, seat);
     }
 
     /// Ends the lock, and gives the value. The hand must be one of this lock that doesn't hold the value, and must have been
