@@ -85,7 +85,12 @@ XSK_RECORD_SLOW struct xsk_record_known_ring *xsk_record_seek(const void *entrie
 	return &none;
 }
 
-/* Describes a ring in the file of this thread; what isn't known is counted. */
+XSK_RECORD_INLINE void xsk_record_describe(struct xsk_record_thread *t, const struct xsk_record_known_ring *known)
+{
+	xsk_record_put(t, XSK_RECORD_RING, xsk_record_byte(known), 0, known->size, known->kind, 0, NULL, 0);
+}
+
+/* Describes a ring in the file of this thread, which is to make a call on it; what isn't known is counted. */
 XSK_RECORD_SLOW void xsk_record_tell(struct xsk_record_thread *t, const struct xsk_record_known_ring *known)
 {
 	if (!t->header && !xsk_record_more(t))
@@ -94,8 +99,9 @@ XSK_RECORD_SLOW void xsk_record_tell(struct xsk_record_thread *t, const struct x
 		t->header->unknown++;
 		return;
 	}
+	xsk_record_calls(t);
 	t->told[known->number] = 1;
-	xsk_record_put(t, XSK_RECORD_RING, xsk_record_byte(known), 0, known->size, known->kind, 0, NULL, 0);
+	xsk_record_describe(t, known);
 }
 
 XSK_RECORD_SLOW uint16_t xsk_record_new_ring(enum xsk_record_kind kind, void *entries, uint32_t size, struct xsk_record_area *area)
@@ -114,7 +120,7 @@ XSK_RECORD_SLOW uint16_t xsk_record_new_ring(enum xsk_record_kind kind, void *en
 		known->area = area;
 		known->size = size;
 		if (xsk_record_here())
-			xsk_record_tell(xsk_record_mine, known);
+			xsk_record_describe(xsk_record_mine, known);
 		return known->number;
 	}
 	return 0;
@@ -137,8 +143,10 @@ XSK_RECORD_INLINE void xsk_record_forget_ring(const void *entries)
 	struct xsk_record_thread *t = xsk_record_here();
 	if (!known->number)
 		return;
-	if (t)
+	if (t) {
+		xsk_record_calls(t);
 		xsk_record_put(t, XSK_RECORD_GONE, xsk_record_byte(known), 0, 0, 0, 0, NULL, 0);
+	}
 	known->number = 0;
 	__atomic_store_n(&known->entries, (void *)xsk_record_rings, __ATOMIC_RELEASE);
 }
@@ -372,6 +380,8 @@ XSK_RECORD_SLOW void xsk_record_wake(int descriptor, enum xsk_record_wake how)
 	if (descriptor < 0 || descriptor >= XSK_RECORD_DESCRIPTORS || !known->xsk)
 		return;
 	t = xsk_record_here();
+	if (t)
+		xsk_record_calls(t);
 	if (t && known->wakes_tx && how != XSK_RECORD_RECVFROM)
 		xsk_record_put_quiet(t, XSK_RECORD_KICK, 3, (uint8_t)(known->wakes_tx - 1), 0, how, how, 0);
 	if (t && known->wakes_rx && how != XSK_RECORD_SENDTO)

@@ -28,6 +28,7 @@
 #include <errno.h>
 #include <fcntl.h>
 #include <poll.h>
+#include <pthread.h>
 #include <stdio.h>
 #include <stdlib.h>
 #include <string.h>
@@ -74,14 +75,18 @@ struct xsk_record_thread {
 	uint64_t most; /* bytes of the file */
 	int descriptor;
 	uint32_t changes;		    /* calls that changed something */
-	uint8_t told[XSK_RECORD_RINGS + 1]; /* whether the file has the ring's description */
+	uint8_t told[XSK_RECORD_RINGS + 1]; /* whether it has made a call on the ring, which its file describes */
 	struct xsk_record_place places[XSK_RECORD_PLACES];
 	struct xsk_record_quiet quiet[4][XSK_RECORD_RINGS];
 };
 
+/* Where times are taken from: the processor's time stamp counter, if it is one for all processors. `ORDERED` waits until the reads before it
+ * are done: a frame that another thread handed on was got before it. `ALONE` doesn't: one thread has made calls, and its own are in order. */
+enum xsk_record_clocks { XSK_RECORD_UNKNOWN, XSK_RECORD_MONOTONIC, XSK_RECORD_ORDERED, XSK_RECORD_ALONE };
+
 XSK_RECORD_SHARED int xsk_record_off;
 XSK_RECORD_SHARED uint32_t xsk_record_clock, xsk_record_process, xsk_record_parent;
-XSK_RECORD_SHARED struct xsk_record_thread *xsk_record_threads;
+XSK_RECORD_SHARED struct xsk_record_thread *xsk_record_threads, *xsk_record_caller; /* all; the first that made a call */
 XSK_RECORD_SHARED __thread struct xsk_record_thread *xsk_record_mine;
 
 /* --------------------------------------------------------------------------------------------------------------------- the clock */
@@ -93,27 +98,48 @@ XSK_RECORD_INLINE uint64_t xsk_record_monotonic(void)
 	return (uint64_t)now.tv_sec * 1000000000u + (uint64_t)now.tv_nsec;
 }
 
-/* The time. Reads that stand before it are done: a frame that another thread handed on was got before it. */
 XSK_RECORD_INLINE uint64_t xsk_record_now(void)
 {
 #ifdef __x86_64__
-	if (XSK_RECORD_LIKELY(xsk_record_clock)) {
-		unsigned int processor;
+	/* Read behind what the call read: where that shows another thread's call, this does too. */
+	uint32_t clock = __atomic_load_n(&xsk_record_clock, __ATOMIC_ACQUIRE);
+	unsigned int processor;
+	if (XSK_RECORD_LIKELY(clock == XSK_RECORD_ALONE))
+		return __builtin_ia32_rdtsc();
+	if (XSK_RECORD_LIKELY(clock == XSK_RECORD_ORDERED))
 		return __builtin_ia32_rdtscp(&processor);
-	}
 #endif
 	return xsk_record_monotonic();
 }
 
-/* Whether all processors have one time stamp counter, which doesn't stop, and the instruction that waits for reads. */
-XSK_RECORD_INLINE uint32_t xsk_record_has_clock(void)
+/* Finds out whether all processors have one time stamp counter, which doesn't stop, and the instruction that waits for reads. */
+XSK_RECORD_INLINE void xsk_record_find_clock(void)
 {
+	uint32_t clock = XSK_RECORD_MONOTONIC, unknown = XSK_RECORD_UNKNOWN;
 #ifdef __x86_64__
 	unsigned int a, b, c, d;
-	return __get_cpuid(0x80000007u, &a, &b, &c, &d) && (d >> 8 & 1) && __get_cpuid(0x80000001u, &a, &b, &c, &d) && (d >> 27 & 1);
-#else
-	return 0;
+	if (__get_cpuid(0x80000007u, &a, &b, &c, &d) && (d >> 8 & 1) && __get_cpuid(0x80000001u, &a, &b, &c, &d) && (d >> 27 & 1))
+		clock = XSK_RECORD_ALONE;
 #endif
+	__atomic_compare_exchange_n(&xsk_record_clock, &unknown, clock, 0, __ATOMIC_ACQ_REL, __ATOMIC_ACQUIRE);
+}
+
+XSK_RECORD_SLOW void xsk_record_not_alone(void);
+XSK_RECORD_SLOW void xsk_record_calls(struct xsk_record_thread *t);
+
+/* Before any other thread's call, and before a fork. */
+XSK_RECORD_SLOW void xsk_record_not_alone(void)
+{
+	uint32_t alone = XSK_RECORD_ALONE;
+	__atomic_compare_exchange_n(&xsk_record_clock, &alone, XSK_RECORD_ORDERED, 0, __ATOMIC_SEQ_CST, __ATOMIC_SEQ_CST);
+}
+
+/* This thread makes calls. */
+XSK_RECORD_SLOW void xsk_record_calls(struct xsk_record_thread *t)
+{
+	struct xsk_record_thread *first = NULL;
+	if (!__atomic_compare_exchange_n(&xsk_record_caller, &first, t, 0, __ATOMIC_ACQ_REL, __ATOMIC_ACQUIRE) && first != t)
+		xsk_record_not_alone();
 }
 
 /* ------------------------------------------------------------------------------------------------------------------ beginning, ending */
@@ -175,7 +201,7 @@ XSK_RECORD_INLINE int xsk_record_open(struct xsk_record_thread *t, const char *p
 	header->process = xsk_record_process;
 	header->parent = xsk_record_parent;
 	header->thread = thread;
-	header->clock = xsk_record_clock;
+	header->clock = xsk_record_clock != XSK_RECORD_MONOTONIC;
 	header->buffer = buffer;
 	t->header = header;
 	t->most = (uint64_t)xsk_record_setting("XSK_RECORD_MB", 1024) << 20;
@@ -194,8 +220,8 @@ XSK_RECORD_INLINE void xsk_record_know_process(void)
 	xsk_record_parent = before;
 	__atomic_store_n(&xsk_record_threads, NULL, __ATOMIC_RELEASE);
 	if (!before) {
-		xsk_record_clock = xsk_record_has_clock();
 		atexit(xsk_record_end);
+		pthread_atfork(xsk_record_not_alone, NULL, NULL);
 	}
 }
 
@@ -209,6 +235,7 @@ XSK_RECORD_SLOW struct xsk_record_thread *xsk_record_begin(void)
 		xsk_record_off = 1;
 		return NULL;
 	}
+	xsk_record_find_clock();
 	xsk_record_know_process();
 	if (!t) {
 		t = (struct xsk_record_thread *)mmap(NULL, sizeof *t, PROT_READ | PROT_WRITE, MAP_PRIVATE | MAP_ANONYMOUS, -1, 0);

@@ -1,6 +1,7 @@
 /* What recording costs: nanoseconds of a call at batch 1, and of a packet at batch 32 over the eight calls that forward it.
- * The kernel's side is played in between, and its time is taken off. */
+ * The kernel's side is played in between, and its time is taken off. With a word behind it another thread has made a call before. */
 #include <xsk_record.h>
+#include <pthread.h>
 
 enum { RING = 512, CALLS = 8 };
 
@@ -77,18 +78,29 @@ static double costs(uint32_t batch, uint32_t batches)
 	return (with - without) / batches;
 }
 
-int main(void)
+static void *another(void *argument)
+{
+	(void)xsk_ring_prod__needs_wakeup(&fill);
+	return argument;
+}
+
+int main(int words, char **word)
 {
 	struct xsk_umem_config memory = {0};
 	struct xsk_socket_config sockets = {0};
-	const char *what = getenv("XSK_RECORD") ? "on" : "off";
+	const char *what = !getenv("XSK_RECORD") ? "off" : words > 1 ? "on, two threads" : "on, one thread";
+	const char *ahead = getenv("XSK_RECORD_AHEAD");
+	pthread_t thread;
 	double one, many;
 	memory.fill_size = memory.comp_size = sockets.rx_size = sockets.tx_size = RING;
 	memory.frame_size = 2048;
 	xsk_umem__create(&umem, NULL, 64 * 2048, &fill, &comp, &memory);
 	xsk_socket__create(&xsk, "v0", 0, umem, &rx, &tx, &sockets);
+	if (words > 1 && (pthread_create(&thread, NULL, another, word) || pthread_join(thread, NULL)))
+		return 1;
 	one = costs(1, 5000) / CALLS;
 	many = costs(32, 1000) / 32;
-	printf("recording %s: %.1f ns a call at batch 1, %.1f ns a packet at batch 32\n", what, one, many);
+	printf("recording %s, %s MB ahead: %.1f ns a call at batch 1, %.1f ns a packet at batch 32\n", what, ahead ? ahead : "0", one,
+		many);
 	return sum == 0;
 }

@@ -1,6 +1,6 @@
 /* A program whose ring calls are recorded, over rings in plain memory: it makes the calls of a script, or one of the scenes below.
  *
- *     drive script FILE | threads COUNT CALLS | stages FRAMES | uneven CALLS | batches | order | fork | killed | much CALLS | guarded
+ *     drive script FILE | threads COUNT CALLS | stages FRAMES | uneven CALLS | batches | order | alone | fork | killed | much CALLS | guarded
  *
  * A line of a script is a call, with `on N` before it where thread N makes it, or what the kernel does (`kernel ..`); `missed ..` is a call
  * that isn't recorded, and `hand RING N` moves the program's own count. */
@@ -447,8 +447,10 @@ static void forked(void)
 	pid_t child;
 	one_socket("4", "4");
 	rounds(0, 2);
+	must(xsk_record_clock != XSK_RECORD_ORDERED, "one process's times are ordered");
 	child = fork();
 	must(child >= 0, "no child");
+	must(xsk_record_clock != XSK_RECORD_ALONE, "two processes' times aren't ordered");
 	rounds(0, child ? 0 : 3);
 	if (!child)
 		exit(0);
@@ -504,6 +506,18 @@ static void order(void)
 	}
 }
 
+/* While one thread alone makes calls its times needn't wait for anything; with another thread's call, or a fork, they must. */
+static void alone(void)
+{
+	struct part once = {0, 4};
+	one_socket("4", "4");
+	must(!pthread_create(&threads[0], NULL, part, &once), "no thread");
+	pthread_join(threads[0], NULL);
+	must(xsk_record_clock != XSK_RECORD_ORDERED, "one thread's times are ordered");
+	rounds(0, 1);
+	must(xsk_record_clock != XSK_RECORD_ALONE, "two threads' times aren't ordered");
+}
+
 /* A frame that was submitted can't be written to, until it comes back. */
 static void guarded(void)
 {
@@ -536,6 +550,8 @@ int main(int count, char **words)
 		batches();
 	} else if (strcmp(words[1], "order") == 0) {
 		order();
+	} else if (strcmp(words[1], "alone") == 0) {
+		alone();
 	} else if (strcmp(words[1], "fork") == 0) {
 		forked();
 	} else if (strcmp(words[1], "much") == 0) {
