@@ -1,7 +1,7 @@
 //! The journal's lines, from a call on.
 ghost use Rattle.std.specs.Prelude.{◌≡◌, ◌+◌, ◌≤◌, ◌↔◌, ◌++◌, IsTrue, List, take, drop, length};
 ghost use Rattle.xsk_model.specs.Entry.{Entry};
-ghost use Rattle.xsk_log.specs.Left.{left_of};
+ghost use Rattle.xsk_log.specs.Left.{left_of, pairs_of};
 ghost use Rattle.xsk_c.specs.Journal.{TellsNext};
 
 use crate::answers::{DONE, SHORT};
@@ -10,7 +10,7 @@ use xsk_log::{LineBuffer, Lines};
 /// Goes past so many calls.
 pub(crate) fn skip(lines: &mut Lines<'_>, count: u32)
     requires { count ≤ length (left_of lines.old) }
-    ensures pairs { lines.new.pairs ≡ lines.old.pairs }
+    ensures pairs { pairs_of lines.new ≡ pairs_of lines.old }
     ensures passed { (past : List Entry) × (left_of lines.old ≡ past ++ left_of lines.new) × (length past ≡ count) }
 {
     let mut line = LineBuffer::new();
@@ -29,7 +29,7 @@ pub(crate) fn put_lines(
 ) -> u32
     requires { length (left_of lines.old) ≡ count }
     ensures few { told.new ≤ count }
-    ensures told { TellsNext lines.old.pairs (left_of lines.old) out.old out.new told.new end.new result }
+    ensures told { TellsNext (pairs_of lines.old) (left_of lines.old) out.old out.new told.new end.new result }
 {
     let mut line = LineBuffer::new();
     let mut at = 0;
