@@ -7,7 +7,7 @@ ghost use Rattle.xsk_model.specs.Entry.{Entry, own};
 ghost use Rattle.xsk_model.specs.Opening.{AreFrames};
 ghost use Rattle.xsk_prog.specs.Chain.{AllObey};
 ghost use Rattle.xsk_sim.specs.Shown.{HasShortPackets};
-ghost use Rattle.xsk_turns.specs.Sending.{sent_by_act};
+ghost use Rattle.xsk_turns.specs.SentWith.{sent_by_act};
 ghost use Rattle.xsk_turns.specs.Workers.{Setting, input_of};
 ghost use Rattle.xsk_bench.specs.Played.{HasPlayed, act_of};
 ghost use Rattle.xsk_bench.specs.declared.seat.Seat.{Seat};

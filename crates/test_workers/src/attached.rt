@@ -9,7 +9,7 @@ ghost use Rattle.xsk_model.specs.Config.{IsRegular};
 ghost use Rattle.xsk_model.specs.Expected.{nothing};
 ghost use Rattle.xsk_prog.specs.Chain.{AllObey};
 ghost use Rattle.xsk_prog.specs.Rules.{HasSockets, IsBelow, IsRuled, Meets};
-ghost use Rattle.xsk_driver.specs.Sent.{IsShort};
+ghost use Rattle.xsk_driver.specs.SentRoom.{IsShort};
 
 use crate::trouble::Trouble;
 use crate::words::{Line, number, one_number, two_numbers};

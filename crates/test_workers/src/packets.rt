@@ -1,7 +1,7 @@
 //! The packets of a script. `packet PORT LEN BYTE AT:BYTE ..` is one whose bytes are all the same, but for those that are
 //! named; `packets PORT COUNT LEN` are so many, each of whose bytes are its own number.
 ghost use Rattle.std.specs.Prelude.{◌≡◌, All, IfOk, OnOk, length};
-ghost use Rattle.xsk_driver.specs.Sent.{IsShort};
+ghost use Rattle.xsk_driver.specs.SentRoom.{IsShort};
 ghost use Rattle.xsk_machine.specs.Acts.{HasShortPackets};
 
 use crate::trouble::Trouble;

@@ -2,7 +2,7 @@
 ghost use Rattle.std.specs.Prelude.{◌≡◌, ◌<◌, All, length};
 ghost use Rattle.xsk_model.specs.Config.{IsRegular};
 ghost use Rattle.xsk_model.specs.Expected.{nothing};
-ghost use Rattle.xsk_driver.specs.Sent.{IsShort};
+ghost use Rattle.xsk_driver.specs.SentRoom.{IsShort};
 ghost use Rattle.xsk_machine.specs.Acts.{HasShortPackets};
 
 use crate::attached::{driver_of, manner_of, program_of};

@@ -15,7 +15,7 @@ use Rattle.xsk_sim.proofs.Turning.{turns_both}
 use Rattle.xsk_machine.specs.declared.inputs.Amount.{Amount}
 use Rattle.xsk_bench.specs.Drives.{Drives}
 use Rattle.xsk_bench.specs.Played.{act_of, IsSeated, HasPlayed, IsGoing, IsStillFor, AreDriversRounds}
-use Rattle.xsk_bench.specs.Playing.{HadTurns, HadRounds}
+use Rattle.xsk_bench.specs.DriverRounds.{HadTurns, HadRounds}
 use Rattle.xsk_bench.specs.declared.play.Play.{Play}
 use Rattle.xsk_bench.specs.declared.seat.Seat.{Seat}
 

@@ -11,8 +11,8 @@ use Rattle.xsk_model.specs.declared.call.Act.TheVariants.{Call as Calls, Ended a
 use Rattle.xsk_model.proofs.Folds.{own-push_same}
 use Rattle.xsk_turns.specs.Turns.{seat_of, start, turn}
 use Rattle.xsk_turns.specs.Workers.{Setting, input_of}
-use Rattle.xsk_turns.specs.Sending.{sent_by_act}
-use Rattle.xsk_driver.specs.Sent.{Sends}
+use Rattle.xsk_turns.specs.SentWith.{sent_by_act}
+use Rattle.xsk_driver.specs.SentRoom.{Sends}
 use Rattle.xsk_driver.specs.Shown.{Shown as DriverShown}
 use Rattle.xsk_driver.specs.Stands.{left}
 use Rattle.xsk_driver.proofs.Runs.{tells_with}

@@ -6,7 +6,7 @@ use Rattle.xsk_model.specs.declared.call.Ring.TheVariants.{Fill, Comp, Rx, Tx}
 use Rattle.xsk_model.specs.declared.call.Mark.TheVariants.{Bounced}
 use Rattle.xsk_model.specs.declared.call.Call.TheVariants.{Reserve, Submit, Peek, Release, Swap, Look}
 use Rattle.xsk_model.specs.declared.call.Act.TheVariants.{Call as Gave, Ended}
-use Rattle.xsk_turns.specs.Sending.{bouncing}
+use Rattle.xsk_turns.specs.SentWith.{bouncing}
 use Rattle.xsk_turns.specs.Workers.{IsWorkerRun}
 use Rattle.xsk_machine.proofs.Acts.{worker_run}
 use Rattle.xsk_sim.proofs.Seating.{each_change, each_tells}

@@ -6,7 +6,7 @@ use Rattle.xsk_model.specs.Entry.{Entry, own}
 use Rattle.xsk_model.specs.Sent.{all_sent}
 use Rattle.xsk_model.specs.declared.call.Act.{Act}
 use Rattle.xsk_model.specs.declared.call.Act.TheVariants.{Call as Gave, Ended}
-use Rattle.xsk_turns.specs.Sending.{is_completing, is_bouncing, bouncing, sent_by_act}
+use Rattle.xsk_turns.specs.SentWith.{is_completing, is_bouncing, bouncing, sent_by_act}
 use Rattle.xsk_turns.specs.Turns.{Judged}
 use Rattle.xsk_turns.specs.Workers.{Setting, IsWorkerRun}
 use Rattle.xsk_bench.specs.Played.{HasPlayed}

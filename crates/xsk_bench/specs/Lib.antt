@@ -1,6 +1,6 @@
 pub mod Drives
 pub mod Laws
 pub mod Played
-pub mod Playing
+pub mod DriverRounds
 pub mod Serving
 pub mod Traffic

@@ -67,9 +67,9 @@ impl<'a> Bench<'a> {
     ghost use Rattle.xsk_prog.specs.Chain.{AllObey, SamePrograms};
     ghost use Rattle.xsk_prog.specs.declared.rule.Verdict.{Verdict as AVerdict};
     ghost use Rattle.xsk_turns.specs.Workers.{Setting, AreGiven, input_of};
-    ghost use Rattle.xsk_turns.specs.Sending.{sent_by_act};
+    ghost use Rattle.xsk_turns.specs.SentWith.{sent_by_act};
     ghost use Rattle.xsk_driver.specs.Asking.{IsAnswer};
-    ghost use Rattle.xsk_driver.specs.Sent.{Exceeds};
+    ghost use Rattle.xsk_driver.specs.SentRoom.{Exceeds};
     ghost use Rattle.xsk_machine.specs.Figures.{figures_in};
     ghost use Rattle.xsk_machine.specs.Workers.{IsAskedOnce, setting_with};
     ghost use Rattle.xsk_plain.specs.Engine.{frames_out};
@@ -78,7 +78,7 @@ impl<'a> Bench<'a> {
     ghost use Rattle.xsk_bench.specs.Played.{HasPlayed, IsGoing, act_of, frames_with};
     ghost use Rattle.xsk_turns.specs.Giving.{with_frames};
     ghost use Rattle.xsk_bench.specs.declared.seat.Seat.{Seat as ASeat};
-    ghost use Rattle.xsk_bench.specs.Playing.{HadRound, HadRounds};
+    ghost use Rattle.xsk_bench.specs.DriverRounds.{HadRound, HadRounds};
     ghost use Rattle.xsk_bench.specs.Serving.{Serves, IsIllegal, TellsWhy};
 
     /// The drivers of all pairs with their packets, over an object in its opening state, in which nobody has made a call. The

@@ -9,7 +9,7 @@ ghost use Rattle.xsk_model.specs.Rings.{caller_of};
 ghost use Rattle.xsk_turns.specs.Workers.{Setting};
 ghost use Rattle.xsk_sim.specs.Rooms.{most_payload};
 ghost use Rattle.xsk_bench.specs.Played.{HasPlayed, IsGoing};
-ghost use Rattle.xsk_bench.specs.Playing.{HadTurns, HadRound, HadRounds};
+ghost use Rattle.xsk_bench.specs.DriverRounds.{HadTurns, HadRound, HadRounds};
 ghost use Rattle.xsk_bench.specs.Serving.{Serves, IsIllegal, TellsWhy};
 
 use crate::Unserved;

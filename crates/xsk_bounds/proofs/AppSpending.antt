@@ -26,7 +26,7 @@ use Rattle.xsk_turns.proofs.Mangling.{length-given, back_sides}
 use Rattle.xsk_turns.specs.AppOwned.{IsApp}
 use Rattle.xsk_turns.proofs.AppGroups.{group_front}
 use Rattle.xsk_turns.proofs.Walks.{Premise, MeetAlong}
-use Rattle.xsk_turns.proofs.AppWalk.{shut_port, shut_cells, Place, Lanes, Ending, Looking, Waking, Looked, Kicking, TxTold, Lowering, Shutting, Family, Said, rx_empty, rx_items, rx_released, tx_granted, tx_full, tx_submitted, comp_empty, comp_items, comp_released, fill_granted, fill_full, fill_submitted, looked_rx_done, told_tx_done, looked_gone, looked_need, kicked, lowered, told_closing, drain_empty, drain_items, drain_released, looked_acked, no_lanes, has_items, lanes_done, has_frames, all_given, sides_done, looks, rests, skips, begins, without_need, needs_none, needs_kick, told_quietly, told_both, closes, keeps_cell, closed_quietly, closed_kicks, AtCalls, AtEntries, AtPasses, IsLaw, of_run}
+use Rattle.xsk_turns.proofs.AppWalk.{shut_port, shut_cells, Stage, Lanes, Ending, Looking, Waking, Looked, Kicking, TxTold, Lowering, Shutting, Family, Said, rx_empty, rx_items, rx_released, tx_granted, tx_full, tx_submitted, comp_empty, comp_items, comp_released, fill_granted, fill_full, fill_submitted, looked_rx_done, told_tx_done, looked_gone, looked_need, kicked, lowered, told_closing, drain_empty, drain_items, drain_released, looked_acked, no_lanes, has_items, lanes_done, has_frames, all_given, sides_done, looks, rests, skips, begins, without_need, needs_none, needs_kick, told_quietly, told_both, closes, keeps_cell, closed_quietly, closed_kicks, AtCalls, AtEntries, AtSilent, IsLaw, of_run}
 use Rattle.xsk_turns.proofs.Owned.{frames_few}
 use Rattle.xsk_turns.specs.Totals.{total}
 use Rattle.xsk_bounds.specs.Totals.{put, steps_put, steps_taken, swapped, cells_swapped, closings_told}
@@ -94,7 +94,7 @@ abbrev done : Bool → ℕ
 done b = cond b 3 0
 
 -- the Swaps that are still to come at a place
-abbrev owed : Place → ℕ
+abbrev owed : Stage → ℕ
 owed (Waking place need pair) = 1 + owed place
 owed (Looked place need pair n) = 1 + owed place
 owed (Kicking place pair) = 1 + owed place
@@ -102,12 +102,12 @@ owed TxTold = 2
 owed (Shutting shut) = 1
 owed place = 0
 
-pub record Pays (place : Place) (kept : AppKept) (l : List Told) : Type 0 where
+pub record Pays (place : Stage) (kept : AppKept) (l : List Told) : Type 0 where
   pub spends : total put l + total steps_put l + 4 * pending kept + back kept ≤ total steps_taken l
   pub swaps : total swapped l + owed place ≤ total put l + done kept.tx_done + total cells_swapped l + 2 * total closings_told l
   pub sides : length kept.back ≡ 2
 
-applies : (place : Place) (kept : AppKept) (l : List Told) → Pays place kept l → Applies l
+applies : (place : Stage) (kept : AppKept) (l : List Told) → Pays place kept l → Applies l
 applies place kept l h = record { spends = omega (arith, h.spends); swaps = omega (arith, h.swaps, few kept.tx_done) }
   where
     few : (b : Bool) → done b ≤ 3
@@ -124,7 +124,7 @@ module _ (c : Config) (a who : ℕ) where
   Asked kept call l = Applies l
 
   -- a call that puts nothing into a ring, takes nothing and swaps no mark
-  still : (place next : Place) (kept now : AppKept) (l : List Told) (call : Call) (reply : Reply) → owed next ≡ owed place → pending now ≡ pending kept → back now ≡ back kept
+  still : (place next : Stage) (kept now : AppKept) (l : List Told) (call : Call) (reply : Reply) → owed next ≡ owed place → pending now ≡ pending kept → back now ≡ back kept
       → length now.back ≡ length kept.back → now.tx_done ≡ kept.tx_done
       → (let t : Told = record { call = call; reply = reply } in (put t ≡ 0) × (steps_put t ≡ 0) × (swapped t ≡ 0)) → Pays place kept l → Pays next now (with_told l call reply)
   still place next kept now l call reply same e f sides g none h =
@@ -138,7 +138,7 @@ module _ (c : Config) (a who : ℕ) where
   calls : AtCalls c a At Asked
   calls p noted kept l known h = applies _ _ l h
 
-  rx_taken : (lane : ℕ) (r : ℕ) (n : ℕ) (kept : AppKept) (l : List Told) (items : List Item) (place next : Place) → owed next ≡ owed place
+  rx_taken : (lane : ℕ) (r : ℕ) (n : ℕ) (kept : AppKept) (l : List Told) (items : List Item) (place next : Stage) → owed next ≡ owed place
       → Pays place kept l → Pays next (received c a lane kept items) (with_told l (Peek (Rx r) n) (Items items))
   rx_taken lane r n kept l items place next same h =
       let t : Told = record { call = Peek (Rx r) n; reply = Items items } in
@@ -148,7 +148,7 @@ module _ (c : Config) (a who : ℕ) where
         sides = h.sides;
       }
 
-  comp_taken : (side : ℕ) (r : ℕ) (n : ℕ) (kept : AppKept) (l : List Told) (items : List Item) (place next : Place) → owed next ≡ owed place
+  comp_taken : (side : ℕ) (r : ℕ) (n : ℕ) (kept : AppKept) (l : List Told) (items : List Item) (place next : Stage) → owed next ≡ owed place
       → Pays place kept l → Pays next (with_back kept side (frames_in items)) (with_told l (Peek (Comp r) n) (Items items))
   comp_taken side r n kept l items place next same h =
       let t : Told = record { call = Peek (Comp r) n; reply = Items items } in
@@ -159,7 +159,7 @@ module _ (c : Config) (a who : ℕ) where
       }
 
   -- what a closed lane gives goes back
-  drain_taken : (lane : ℕ) (r : ℕ) (n : ℕ) (kept : AppKept) (l : List Told) (items : List Item) (place next : Place) → owed next ≡ owed place
+  drain_taken : (lane : ℕ) (r : ℕ) (n : ℕ) (kept : AppKept) (l : List Told) (items : List Item) (place next : Stage) → owed next ≡ owed place
       → Pays place kept l → Pays next (drained c lane kept items) (with_told l (Peek (Rx r) n) (Items items))
   drain_taken lane r n kept l items place next same h =
       let t : Told = record { call = Peek (Rx r) n; reply = Items items } in
@@ -182,7 +182,7 @@ module _ (c : Config) (a who : ℕ) where
       }
 
   -- a Swap that lowers a cell or closes a socket
-  closes_more : (place next : Place) (kept : AppKept) (begun : Bool) (l : List Told) (call : Call) (n : ℕ)
+  closes_more : (place next : Stage) (kept : AppKept) (begun : Bool) (l : List Told) (call : Call) (n : ℕ)
       → (let t : Told = record { call = call; reply = Old n } in (put t ≡ 0) × (steps_put t ≡ 0)) → owed place ≡ 0 → (let t : Told = record { call = call; reply = Old n } in swapped t + owed next ≤ cells_swapped t + 2 * closings_told t)
       → Pays place kept l → Pays next (record kept { begun = begun }) (with_told l call (Old n))
   closes_more place next kept begun l call n none here more h =
@@ -193,7 +193,7 @@ module _ (c : Config) (a who : ℕ) where
         sides = h.sides;
       }
 
-  tx_put : (lane : ℕ) (r : ℕ) (kept : AppKept) (l : List Told) (place next : Place) → owed next ≤ owed place + length (pending_at kept lane)
+  tx_put : (lane : ℕ) (r : ℕ) (kept : AppKept) (l : List Told) (place next : Stage) → owed next ≤ owed place + length (pending_at kept lane)
       → Pays place kept l → Pays next (passed_on c lane kept) (with_told l (Submit (Tx r) (given_on c lane kept)) Submitted)
   tx_put lane r kept l place next some h =
       let t : Told = record { call = Submit (Tx r) (given_on c lane kept); reply = Submitted } in
@@ -204,7 +204,7 @@ module _ (c : Config) (a who : ℕ) where
         sides = back_sides kept.manner.mangle kept.number (pending_at kept lane) (lane / classes_of c) kept.back ∙ h.sides;
       }
 
-  fill_put : (side : ℕ) (r n : ℕ) (kept : AppKept) (l : List Told) (items : List Item) (frames : List Frame) (place next : Place) → side < 2 → length items ≤ length frames → n ≡ length items
+  fill_put : (side : ℕ) (r n : ℕ) (kept : AppKept) (l : List Told) (items : List Item) (frames : List Frame) (place next : Stage) → side < 2 → length items ≤ length frames → n ≡ length items
       → owed next ≤ owed place + length items
       → Pays place (with_back kept side frames) l → Pays next (with_back kept side (drop n frames)) (with_told l (Submit (Fill r) items) Submitted)
   fill_put side r n kept l items frames place next below few is some h =
@@ -272,32 +272,32 @@ module _ (c : Config) (a who : ℕ) where
   entries (drain_released lane n) noted kept l known h asked q = still _ _ kept kept l _ Released refl refl refl refl refl (refl, refl, refl) h
   entries (looked_acked shut n) noted kept l known h asked q = still Ending Ending kept (with_acked kept n) l _ (Old n) refl refl refl refl refl (refl, refl, refl) h
 
-  go_to : (place next : Place) (kept : AppKept) (l : List Told) → owed next ≤ owed place → Pays place kept l → Pays next kept l
+  go_to : (place next : Stage) (kept : AppKept) (l : List Told) → owed next ≤ owed place → Pays place kept l → Pays next kept l
   go_to place next kept l fewer h = record { spends = h.spends; swaps = omega (arith, h.swaps, fewer); sides = h.sides }
 
-  passes : AtPasses c a At
-  passes (without_need place need pair) noted kept l = λ h off. go_to (Waking place need pair) place kept l (omega arith) h
-  passes (needs_none place need pair n) noted kept l = λ h none. go_to (Looked place need pair n) place kept l (omega arith) h
-  passes (needs_kick place need pair n) noted kept l = λ h one. go_to (Looked place need pair n) (Kicking place pair) kept l (omega arith) h
-  passes told_quietly noted kept l = λ h off. go_to TxTold (Looking 2) kept l (omega arith) h
-  passes told_both noted kept l = λ h on. go_to TxTold _ kept l (omega arith) h
-  passes no_lanes noted kept l = λ h e. go_to _ _ kept l (omega arith) h
-  passes (has_items lane item items) noted kept l = λ h e. go_to _ _ kept l (omega arith) h
-  passes lanes_done noted kept l = λ h e. go_to _ _ kept l (omega arith) h
-  passes (has_frames side frame frames) noted kept l = λ h e. go_to _ _ kept l (omega arith) h
-  passes (all_given side) noted kept l = λ h e. go_to _ _ (with_back kept side []) l (omega arith) h
-  passes sides_done noted kept l = λ h e. go_to _ _ kept l (omega arith) h
-  passes looks noted kept l = λ h e. go_to _ _ kept l (omega arith) h
-  passes rests noted kept l = λ h e. go_to _ _ kept l (omega arith) h
-  passes (skips side) noted kept l = λ h e. go_to _ _ kept l (omega arith) h
-  passes begins noted kept l = λ h e. go_to _ _ kept l (omega arith) h
-  passes (closes shut) noted kept l = λ h e. go_to (Lanes 0) (Lowering shut 0) kept l (omega arith) h
-  passes (keeps_cell shut index) noted kept l = λ h e. go_to (Lowering shut index) (Lowering shut (index + 1)) kept l (omega arith) h
-  passes (closed_quietly shut) noted kept l = λ h e. go_to (Shutting shut) (Lanes 0) kept l (omega arith) h
-  passes (closed_kicks shut) noted kept l = λ h e. go_to (Shutting shut) (Kicking (Lanes 0) (pair_of c a shut.side)) kept l (omega arith) h
+  silent : AtSilent c a At
+  silent (without_need place need pair) noted kept l = λ h off. go_to (Waking place need pair) place kept l (omega arith) h
+  silent (needs_none place need pair n) noted kept l = λ h none. go_to (Looked place need pair n) place kept l (omega arith) h
+  silent (needs_kick place need pair n) noted kept l = λ h one. go_to (Looked place need pair n) (Kicking place pair) kept l (omega arith) h
+  silent told_quietly noted kept l = λ h off. go_to TxTold (Looking 2) kept l (omega arith) h
+  silent told_both noted kept l = λ h on. go_to TxTold _ kept l (omega arith) h
+  silent no_lanes noted kept l = λ h e. go_to _ _ kept l (omega arith) h
+  silent (has_items lane item items) noted kept l = λ h e. go_to _ _ kept l (omega arith) h
+  silent lanes_done noted kept l = λ h e. go_to _ _ kept l (omega arith) h
+  silent (has_frames side frame frames) noted kept l = λ h e. go_to _ _ kept l (omega arith) h
+  silent (all_given side) noted kept l = λ h e. go_to _ _ (with_back kept side []) l (omega arith) h
+  silent sides_done noted kept l = λ h e. go_to _ _ kept l (omega arith) h
+  silent looks noted kept l = λ h e. go_to _ _ kept l (omega arith) h
+  silent rests noted kept l = λ h e. go_to _ _ kept l (omega arith) h
+  silent (skips side) noted kept l = λ h e. go_to _ _ kept l (omega arith) h
+  silent begins noted kept l = λ h e. go_to _ _ kept l (omega arith) h
+  silent (closes shut) noted kept l = λ h e. go_to (Lanes 0) (Lowering shut 0) kept l (omega arith) h
+  silent (keeps_cell shut index) noted kept l = λ h e. go_to (Lowering shut index) (Lowering shut (index + 1)) kept l (omega arith) h
+  silent (closed_quietly shut) noted kept l = λ h e. go_to (Shutting shut) (Lanes 0) kept l (omega arith) h
+  silent (closed_kicks shut) noted kept l = λ h e. go_to (Shutting shut) (Kicking (Lanes 0) (pair_of c a shut.side)) kept l (omega arith) h
 
   law : IsLaw c a (Lawful c who) At Asked (λ kept l. Applies l)
-  law = record { calls = calls; entries = entries; passes = passes; ends = λ noted kept l done h. applies Ending kept l h }
+  law = record { calls = calls; entries = entries; silent = silent; ends = λ noted kept l done h. applies Ending kept l h }
 
 pub app_applies : (m : Manner) (c : Config) (a who : ℕ) (l : List Told) → IsApp c a → OwnGoesOn c who [] l → IsAppRunBy m c a l → Applies l
 app_applies m c a who l one legal run =

@@ -26,7 +26,7 @@ use Rattle.xsk_turns.specs.declared.manner.Manner.{Manner}
 use Rattle.xsk_turns.specs.declared.wire.Wire.{Wire}
 use Rattle.xsk_turns.proofs.ScriptLemmas.{leaves_front, asked_last}
 use Rattle.xsk_turns.proofs.Walks.{Anything, meet_anything}
-use Rattle.xsk_turns.proofs.DriverPlaces.{Woken, Family, Said, ClearKick, kicked, none_comes, IsLaw, AtCalls, AtEntries, AtPasses}
+use Rattle.xsk_turns.proofs.DriverStages.{Woken, Family, Said, ClearKick, kicked, none_comes, IsLaw, AtCalls, AtEntries, AtSilent}
 use Rattle.xsk_turns.proofs.DriverWalk.{at_call}
 use Rattle.xsk_turns.proofs.AppWalk as walk
 use Rattle.xsk_bounds.specs.Totals.{saw_kick, saw_last}
@@ -56,12 +56,12 @@ module _ (wire : Wire) (c : Config) (d : ℕ) where
       fold_push (λ before t. saw_kick d t) false l (record { call = Look (Kick d); reply = Old n }) ∙ and_from (eqb d d) (eqb n 1) (eq-eqb d d refl) found
   entries e noted kept l known found h a q = tt
 
-  passes : AtPasses (seat_of wire c d) Anything At
-  passes none_comes noted kept l = λ h e. tt
-  passes p noted kept l = λ h e. tt
+  silent : AtSilent (seat_of wire c d) Anything At
+  silent none_comes noted kept l = λ h e. tt
+  silent p noted kept l = λ h e. tt
 
   law : IsLaw (seat_of wire c d) Anything At Asked (λ kept l. Unit {0})
-  law = record { calls = calls; entries = entries; passes = passes; ends = λ noted kept l n known h a q. tt }
+  law = record { calls = calls; entries = entries; silent = silent; ends = λ noted kept l n known h a q. tt }
 
 driver_clears : (wire : Wire) (c : Config) (d : ℕ) (input : List Judged) (l : List Told) (kept : Kept) (call : Call) (rest : Reply → Script Kept)
     → Asks (turn (seat_of wire c d)) (start (classes_of c) input) l kept call rest → Clears d call l
@@ -87,12 +87,12 @@ module _ (c : Config) (a : ℕ) where
   app_calls (walk.KickDriver place pair) noted kept l known h = refl
   app_calls p noted kept l known h = tt
 
-  app_passes : walk.AtPasses c a AppAt
-  app_passes walk.no_lanes noted kept l = λ h e. tt
-  app_passes p noted kept l = λ h e. tt
+  app_silent : walk.AtSilent c a AppAt
+  app_silent walk.no_lanes noted kept l = λ h e. tt
+  app_silent p noted kept l = λ h e. tt
 
   app_law : walk.IsLaw c a Anything AppAt AppAsked (λ kept l. Unit {0})
-  app_law = record { calls = app_calls; entries = λ e noted kept l known h asked q. tt; passes = app_passes; ends = λ noted kept l done h. tt }
+  app_law = record { calls = app_calls; entries = λ e noted kept l known h asked q. tt; silent = app_silent; ends = λ noted kept l done h. tt }
 
 app_kicks : (m : Manner) (c : Config) (a : ℕ) (one : IsApp c a) (l : List Told) (kept : AppKept) (call : Call) (rest : Reply → Script AppKept)
     → Asks (app_turn c a) (app_start_by m c) l kept call rest → Kicks call

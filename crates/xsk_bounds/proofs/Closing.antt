@@ -20,9 +20,9 @@ use Rattle.xsk_turns.specs.declared.manner.Manner.{Manner}
 use Rattle.xsk_turns.specs.declared.wire.Wire.{Wire}
 use Rattle.xsk_turns.proofs.AppShut.{shut_mine, no_shut, shut_port_below, shut_app}
 use Rattle.xsk_turns.proofs.Walks.{Anything, meet_anything}
-use Rattle.xsk_turns.proofs.DriverPlaces as drive
+use Rattle.xsk_turns.proofs.DriverStages as drive
 use Rattle.xsk_turns.proofs.DriverWalk as along
-use Rattle.xsk_turns.proofs.AppWalk.{Place, Looking, Waking, Looked, Kicking, Lowering, Family, Said, TellClosing, shut_port, shut_cells, asked, leads, kept_before, call_at, point_of, reply_of, lowered, told_closing, looked_rx_done, looked_gone, closes, keeps_cell, AtCalls, AtEntries, AtPasses, IsLaw, of_run}
+use Rattle.xsk_turns.proofs.AppWalk.{Stage, Looking, Waking, Looked, Kicking, Lowering, Family, Said, TellClosing, shut_port, shut_cells, asked, leads, kept_before, call_at, point_of, reply_of, lowered, told_closing, looked_rx_done, looked_gone, closes, keeps_cell, AtCalls, AtEntries, AtSilent, IsLaw, of_run}
 use Rattle.xsk_turns.specs.Totals.{total}
 use Rattle.xsk_bounds.specs.Totals.{sum_below, number_of, cell_count, closing_count, cells_swapped, closings_told, closings_acked}
 use Rattle.xsk_bounds.proofs.Totals.{total-push, sum-zero}
@@ -37,7 +37,7 @@ flag_few false = omega arith
 -- ---- an application
 
 -- the cells before the one at a place
-abbrev low_at : Place → ℕ
+abbrev low_at : Stage → ℕ
 low_at (Lowering shut index) = index
 low_at (Waking place need pair) = low_at place
 low_at (Looked place need pair n) = low_at place
@@ -58,7 +58,7 @@ module _ (c : Config) (a : ℕ) (one : IsApp c a) where
       let map : IsMap (length c.sockets) (map_of c (shut_port c shut)) = one.config.cells (shut_port c shut) [] (omega (arith, below, maps)) in
       map.few
 
-  abbrev Closes : Place → AppKept → List Told → Type 0
+  abbrev Closes : Stage → AppKept → List Told → Type 0
   Closes place kept l = (total closings_told l ≤ flag kept.begun) × (flag kept.begun ≤ shuts) × (total cells_swapped l ≤ 64 * flag kept.begun + low_at place) × (total cells_swapped l ≤ 64 * shuts)
 
   abbrev At : Family
@@ -75,7 +75,7 @@ module _ (c : Config) (a : ℕ) (one : IsApp c a) where
   calls p noted kept l known h = (omega (arith, h.0, h.1), h.3)
 
   -- a call that closes nothing
-  stays : (place next : Place) (kept now : AppKept) (l : List Told) (call : Call) (reply : Reply) → low_at next ≡ low_at place → now.begun ≡ kept.begun → closing_count call ≡ 0 → cell_count call ≡ 0
+  stays : (place next : Stage) (kept now : AppKept) (l : List Told) (call : Call) (reply : Reply) → low_at next ≡ low_at place → now.begun ≡ kept.begun → closing_count call ≡ 0 → cell_count call ≡ 0
       → Closes place kept l → Closes next now (with_told l call reply)
   stays place next kept now l call reply low begun none nor h =
       let t : Told = record { call = call; reply = reply } in
@@ -121,13 +121,13 @@ module _ (c : Config) (a : ℕ) (one : IsApp c a) where
   entries e noted kept l known h said q =
       stays (asked c a (point_of e) kept).0 (leads c a e noted kept).0 (kept_before (point_of e) kept) (leads c a e noted kept).2 l (call_at c a (point_of e) kept) (reply_of e) refl refl refl refl h
 
-  passes : AtPasses c a At
-  passes (closes shut) noted kept l = λ h e. h
-  passes (keeps_cell shut index) noted kept l = λ h e. (h.0, h.1, omega (arith, h.2), h.3)
-  passes p noted kept l = λ h e. h
+  silent : AtSilent c a At
+  silent (closes shut) noted kept l = λ h e. h
+  silent (keeps_cell shut index) noted kept l = λ h e. (h.0, h.1, omega (arith, h.2), h.3)
+  silent p noted kept l = λ h e. h
 
   law : IsLaw c a Anything At Asked (λ kept l. Few l)
-  law = record { calls = calls; entries = entries; passes = passes; ends = λ noted kept l done h. (omega (arith, h.0, h.1), h.3) }
+  law = record { calls = calls; entries = entries; silent = silent; ends = λ noted kept l done h. (omega (arith, h.0, h.1), h.3) }
 
 pub app_closes : (m : Manner) (c : Config) (a : ℕ) (one : IsApp c a) (l : List Told) → IsAppRunBy m c a l → Few c a one l
 app_closes m c a one l run =
@@ -165,15 +165,15 @@ module _ (wire : Wire) (c : Config) (d : ℕ) where
   driver_entries e noted kept l known found h a q =
       driver_stays kept (drive.leads (seat_of wire c d) e noted kept).2 l (record { call = drive.call_at (seat_of wire c d) (drive.point_of e) kept; reply = drive.reply_of e }) refl refl h
 
-  driver_passes : drive.AtPasses (seat_of wire c d) Anything AtDriver
-  driver_passes drive.none_comes noted kept l = λ h e. h
-  driver_passes p noted kept l = λ h e. h
+  driver_silent : drive.AtSilent (seat_of wire c d) Anything AtDriver
+  driver_silent drive.none_comes noted kept l = λ h e. h
+  driver_silent p noted kept l = λ h e. h
 
   driver_law : drive.IsLaw (seat_of wire c d) Anything AtDriver AskedDriver (λ kept l. Acks l)
   driver_law = record {
     calls = driver_calls;
     entries = driver_entries;
-    passes = driver_passes;
+    silent = driver_silent;
     ends = λ noted kept l n known h a q. let t : Told = record { call = drive.call_at (seat_of wire c d) drive.TellGone kept; reply = Old n } in omega (arith, total-push closings_acked l t, a);
   }
 

@@ -25,7 +25,7 @@ use Rattle.xsk_turns.specs.declared.disposal.Disposal.{Disposal}
 use Rattle.xsk_turns.specs.declared.disposal.Disposal.TheVariants.{Delivered, NoFrames, RxFull, TooLong, Missed, Bounced}
 use Rattle.xsk_turns.proofs.Layouts.{few_pieces, length-laid_out}
 use Rattle.xsk_turns.proofs.Walks.{nothing_due, submit_due, release_due}
-use Rattle.xsk_turns.proofs.DriverPlaces.{Place, Starting, Acking, Receiving, Trying, Lacking, Sending, Idling, Arming, Which, Turning, Again, Parked, Woken, Disarming, Family, first_place, Begins, asked, PeekFill, ReleaseFill, PeekTx, ReleaseTx, ArmTx, DisarmTx, SubmitRx, call_at, saw_fed, saw_closed, told_acked, told_rx_done, told_bounced, looked_none, looked_long, looked_some, fill_empty, fill_items, fill_released, rx_granted, rx_full, rx_submitted, comp_granted, comp_full, comp_submitted, tx_empty, tx_items, tx_released, looked_tx_done, armed_fill, armed_tx, found_end, found_none, kicked, not_kicked, cleared_kick, disarmed_fill, disarmed_tx, receives, untried, none_comes, too_few, waits, drops_full, drops_frameless, visited, idles, arms, seeks, sought, misses, looks, finds, parks, disarmed, Said, AtCalls, AtEntries, AtPasses, IsLaw}
+use Rattle.xsk_turns.proofs.DriverStages.{Stage, Starting, Acking, Receiving, Trying, Lacking, Sending, Idling, Arming, Which, Turning, Again, Parked, Woken, Disarming, Family, first_place, Begins, asked, PeekFill, ReleaseFill, PeekTx, ReleaseTx, ArmTx, DisarmTx, SubmitRx, call_at, saw_fed, saw_closed, told_acked, told_rx_done, told_bounced, looked_none, looked_long, looked_some, fill_empty, fill_items, fill_released, rx_granted, rx_full, rx_submitted, comp_granted, comp_full, comp_submitted, tx_empty, tx_items, tx_released, looked_tx_done, armed_fill, armed_tx, found_end, found_none, kicked, not_kicked, cleared_kick, disarmed_fill, disarmed_tx, receives, untried, none_comes, too_few, waits, drops_full, drops_frameless, visited, idles, arms, seeks, sought, misses, looks, finds, parks, disarmed, Said, AtCalls, AtEntries, AtSilent, IsLaw}
 use Rattle.xsk_turns.proofs.DriverWalk.{of_run}
 use Rattle.xsk_turns.specs.Totals.{total}
 use Rattle.xsk_bounds.specs.Totals.{put, steps_put, steps_taken, swapped, took, kick_swaps, closings_acked}
@@ -87,7 +87,7 @@ abbrev more_in : Which → ℕ
 more_in Turning = 0
 more_in Again = 5
 
-abbrev more_at : Place → ℕ
+abbrev more_at : Stage → ℕ
 more_at (Trying look packet s due) = more_in look
 more_at (Lacking look packet s full) = more_in look
 more_at (Sending look k due) = more_in look
@@ -101,7 +101,7 @@ abbrev fewer_in : Which → Bool → ℕ
 fewer_in Turning progress = 0
 fewer_in Again progress = eleven progress
 
-abbrev fewer_at : Place → Bool → ℕ
+abbrev fewer_at : Stage → Bool → ℕ
 fewer_at (Trying look packet s due) progress = fewer_in look progress
 fewer_at (Lacking look packet s full) progress = fewer_in look progress
 fewer_at (Sending look k due) progress = fewer_in look progress
@@ -113,14 +113,14 @@ abbrev QuietIn : Which → Bool → Type 0
 QuietIn Turning tx_done = Unit {0}
 QuietIn Again tx_done = tx_done ≡ false
 
-abbrev IsQuiet : Place → Bool → Bool → Type 0
+abbrev IsQuiet : Stage → Bool → Bool → Type 0
 IsQuiet (Arming k) progress tx_done = (progress ≡ false) × (tx_done ≡ false)
 IsQuiet (Trying look packet s due) progress tx_done = QuietIn look tx_done
 IsQuiet (Lacking look packet s full) progress tx_done = QuietIn look tx_done
 IsQuiet (Sending look k due) progress tx_done = QuietIn look tx_done
 IsQuiet place progress tx_done = Unit {0}
 
-pub record Pays (d packets : ℕ) (place : Place) (progress : Bool) (kept : Kept) (l : List Told) : Type 0 where
+pub record Pays (d packets : ℕ) (place : Stage) (progress : Bool) (kept : Kept) (l : List Told) : Type 0 where
   pub spends : total put l + total steps_put l + 2 * held kept ≤ total steps_taken l + 90 * length kept.disposals
   pub count : length kept.disposals + length kept.coming ≡ packets
   pub swaps : total swapped l + fewer_at place progress ≤ base d kept.rx_done kept.tx_done l + more_at place + length kept.disposals
@@ -163,7 +163,7 @@ module _ (wire : Wire) (c : Config) (d packets : ℕ) (few : classes_of c ≤ 4)
   abbrev Asked : Said
   Asked kept call l = Spent d packets l
 
-  spent : (place : Place) (progress : Bool) (kept : Kept) (l : List Told) → more_at place ≤ 5 + fewer_at place progress → Pays d packets place progress kept l → Spent d packets l
+  spent : (place : Stage) (progress : Bool) (kept : Kept) (l : List Told) → more_at place ≤ 5 + fewer_at place progress → Pays d packets place progress kept l → Spent d packets l
   spent place progress kept l small h =
       record {
         spends = omega (arith, h.spends, h.count);
@@ -175,12 +175,12 @@ module _ (wire : Wire) (c : Config) (d packets : ℕ) (few : classes_of c ≤ 4)
   abbrev Costs : Kept → Kept → Told → Type 0
   Costs kept now t = put t + steps_put t + 2 * held now + 90 * length kept.disposals ≤ 2 * held kept + steps_taken t + 90 * length now.disposals
 
-  abbrev Counts : Place → Place → Bool → Bool → Kept → Kept → Told → Type 0
+  abbrev Counts : Stage → Stage → Bool → Bool → Kept → Kept → Told → Type 0
   Counts place next progress after kept now t =
       swapped t + fewer_at next after + more_at place + 11 * flag kept.tx_done + flag kept.rx_done + length kept.disposals
       ≤ fewer_at place progress + more_at next + 11 * took t + 11 * kick_swaps d 0 t + 11 * flag now.tx_done + flag now.rx_done + length now.disposals + closings_acked t
 
-  step : (place next : Place) (progress after : Bool) (kept now : Kept) (l : List Told) (call : Call) (reply : Reply)
+  step : (place next : Stage) (progress after : Bool) (kept now : Kept) (l : List Told) (call : Call) (reply : Reply)
       → (let t : Told = record { call = call; reply = reply } in Costs kept now t × Counts place next progress after kept now t × ((e : ℕ) → kick_swaps e 1 t ≡ 0))
       → length now.disposals + length now.coming ≡ length kept.disposals + length kept.coming → IsQuiet next after now.tx_done
       → Pays d packets place progress kept l → Pays d packets next after now (with_told l call reply)
@@ -195,7 +195,7 @@ module _ (wire : Wire) (c : Config) (d packets : ℕ) (few : classes_of c ≤ 4)
       }
 
   -- a call that moves no frame and swaps no mark
-  still : (place next : Place) (progress after : Bool) (kept now : Kept) (l : List Told) (call : Call) (reply : Reply)
+  still : (place next : Stage) (progress after : Bool) (kept now : Kept) (l : List Told) (call : Call) (reply : Reply)
       → (let t : Told = record { call = call; reply = reply } in (put t ≡ 0) × (steps_put t ≡ 0) × (swapped t ≡ 0) × ((e : ℕ) → kick_swaps e 1 t ≡ 0))
       → held now ≡ held kept → length kept.disposals ≤ length now.disposals → length now.disposals + length now.coming ≡ length kept.disposals + length kept.coming
       → now.rx_done ≡ kept.rx_done → flag kept.tx_done ≤ flag now.tx_done → fewer_at next after + more_at place ≤ fewer_at place progress + more_at next → IsQuiet next after now.tx_done
@@ -220,14 +220,14 @@ module _ (wire : Wire) (c : Config) (d packets : ℕ) (few : classes_of c ≤ 4)
         total-append (λ (xs : List Item). length xs) kept.finished packets,
       )
 
-  takes_tx : (place next : Place) (progress after : Bool) (kept : Kept) (l : List Told) (class s n : ℕ) (items : List Item)
+  takes_tx : (place next : Stage) (progress after : Bool) (kept : Kept) (l : List Told) (class s n : ℕ) (items : List Item)
       → fewer_at next after + more_at place ≤ fewer_at place progress + more_at next + 11 * length items → IsQuiet next after kept.tx_done
       → Pays d packets place progress kept l → Pays d packets next after (gathered seat class kept items) (with_told l (Peek (Tx s) n) (Items items))
   takes_tx place next progress after kept l class s n items credit quiet h =
       step place next progress after kept (gathered seat class kept items) l (Peek (Tx s) n) (Items items)
       (omega (arith, group_few kept class items), omega (arith, credit), λ e. refl) refl quiet h
 
-  takes_fill : (place next : Place) (progress after : Bool) (kept : Kept) (l : List Told) (n : ℕ) (items : List Item)
+  takes_fill : (place next : Stage) (progress after : Bool) (kept : Kept) (l : List Told) (n : ℕ) (items : List Item)
       → fewer_at next after + more_at place ≤ fewer_at place progress + more_at next + 11 * length items → IsQuiet next after kept.tx_done
       → Pays d packets place progress kept l → Pays d packets next after (supplied seat kept items) (with_told l (Peek (Fill d) n) (Items items))
   takes_fill place next progress after kept l n items credit quiet h =
@@ -239,7 +239,7 @@ module _ (wire : Wire) (c : Config) (d packets : ℕ) (few : classes_of c ≤ 4)
       → length (disposals ++ x ∷ []) + length (drop 1 coming) ≡ length disposals + length coming
   one_fewer disposals x coming packet later e = omega (arith, length-append disposals (x ∷ []), length-drop 1 coming, ap length e)
 
-  settles : (place next : Place) (progress after : Bool) (kept now : Kept) (l : List Told) (call : Call) (reply : Reply) (x : Disposal)
+  settles : (place next : Stage) (progress after : Bool) (kept now : Kept) (l : List Told) (call : Call) (reply : Reply) (x : Disposal)
       → (let t : Told = record { call = call; reply = reply } in (put t ≡ 0) × (steps_put t ≡ 0) × (swapped t ≡ 0) × ((e : ℕ) → kick_swaps e 1 t ≡ 0))
       → held now ≡ held kept → now.disposals ≡ kept.disposals ++ x ∷ [] → length now.disposals + length now.coming ≡ length kept.disposals + length kept.coming
       → now.rx_done ≡ kept.rx_done → now.tx_done ≡ kept.tx_done → fewer_at next after + more_at place ≤ fewer_at place progress + more_at next → IsQuiet next after now.tx_done
@@ -256,7 +256,7 @@ module _ (wire : Wire) (c : Config) (d packets : ℕ) (few : classes_of c ≤ 4)
   and_false false = refl
 
   -- a Swap of a mark that is no kick
-  swaps_mark : (place next : Place) (progress after : Bool) (kept now : Kept) (l : List Told) (m : Mark) (value n : ℕ)
+  swaps_mark : (place next : Stage) (progress after : Bool) (kept now : Kept) (l : List Told) (m : Mark) (value n : ℕ)
       → ((e v : ℕ) → kick_swaps e v (record { call = Swap m value; reply = Old n }) ≡ 0)
       → held now ≡ held kept → now.disposals ≡ kept.disposals → now.coming ≡ kept.coming → now.tx_done ≡ kept.tx_done
       → 1 + fewer_at next after + more_at place + flag kept.rx_done ≤ fewer_at place progress + more_at next + flag now.rx_done → IsQuiet next after now.tx_done
@@ -351,7 +351,7 @@ module _ (wire : Wire) (c : Config) (d packets : ℕ) (few : classes_of c ≤ 4)
   entries (disarmed_tx k n) noted kept l known found h a q =
       swaps_mark (Disarming false k) (Disarming false (k + 1)) noted.progress noted.progress kept kept l (NeedTx (socket_of seat k)) 0 n (λ e v. refl) refl refl refl refl (omega arith) tt h
 
-  go_to : (place next : Place) (progress after : Bool) (kept now : Kept) (l : List Told) → held now ≡ held kept → length kept.disposals ≤ length now.disposals
+  go_to : (place next : Stage) (progress after : Bool) (kept now : Kept) (l : List Told) → held now ≡ held kept → length kept.disposals ≤ length now.disposals
       → length now.disposals + length now.coming ≡ length kept.disposals + length kept.coming → now.rx_done ≡ kept.rx_done → now.tx_done ≡ kept.tx_done
       → fewer_at next after + more_at place ≤ fewer_at place progress + more_at next → IsQuiet next after now.tx_done
       → Pays d packets place progress kept l → Pays d packets next after now l
@@ -367,37 +367,37 @@ module _ (wire : Wire) (c : Config) (d packets : ℕ) (few : classes_of c ≤ 4)
   settles_so : (kept now : Kept) (x : Disposal) → now.disposals ≡ kept.disposals ++ x ∷ [] → length kept.disposals ≤ length now.disposals
   settles_so kept now x more = omega (arith, ap length more, length-append kept.disposals (x ∷ []))
 
-  passes : AtPasses seat (Lawful c d) At
-  passes receives noted kept l = λ h e. go_to Starting Receiving noted.progress noted.progress kept kept l refl (omega arith) refl refl refl (omega arith) tt h
-  passes (untried packet later x) noted kept l = λ h e.
+  silent : AtSilent seat (Lawful c d) At
+  silent receives noted kept l = λ h e. go_to Starting Receiving noted.progress noted.progress kept kept l refl (omega arith) refl refl refl (omega arith) tt h
+  silent (untried packet later x) noted kept l = λ h e.
       go_to Receiving Receiving noted.progress true kept (settled kept x) l refl (settles_so kept (settled kept x) x refl) (one_fewer kept.disposals x kept.coming packet later e.0) refl refl (omega arith) tt h
-  passes none_comes noted kept l = λ h e. go_to _ _ noted.progress noted.progress kept kept l refl (omega arith) refl refl refl (omega arith) tt h
-  passes (too_few packet s) noted kept l = λ h e. go_to _ _ noted.progress noted.progress kept kept l refl (omega arith) refl refl refl (omega arith) tt h
-  passes (waits packet s full) noted kept l = λ h e. go_to (Lacking Turning packet s full) (Sending Turning 0 nothing_due) noted.progress _ kept kept l refl (omega arith) refl refl refl (omega arith) tt h
-  passes (drops_full packet s) noted kept l = λ h e.
+  silent none_comes noted kept l = λ h e. go_to _ _ noted.progress noted.progress kept kept l refl (omega arith) refl refl refl (omega arith) tt h
+  silent (too_few packet s) noted kept l = λ h e. go_to _ _ noted.progress noted.progress kept kept l refl (omega arith) refl refl refl (omega arith) tt h
+  silent (waits packet s full) noted kept l = λ h e. go_to (Lacking Turning packet s full) (Sending Turning 0 nothing_due) noted.progress _ kept kept l refl (omega arith) refl refl refl (omega arith) tt h
+  silent (drops_full packet s) noted kept l = λ h e.
       go_to (Lacking Turning packet s true) (Sending Turning 0 nothing_due) noted.progress true kept (settled kept RxFull) l refl (settles_so kept (settled kept RxFull) RxFull refl) (one_fewer kept.disposals RxFull kept.coming packet e.0.next.later e.0.next.is) refl refl (omega arith) tt h
-  passes (drops_frameless packet s) noted kept l = λ h e.
+  silent (drops_frameless packet s) noted kept l = λ h e.
       go_to (Lacking Turning packet s false) (Sending Turning 0 nothing_due) noted.progress true kept (dropped kept NoFrames) l refl (settles_so kept (dropped kept NoFrames) NoFrames refl) (one_fewer kept.disposals NoFrames kept.coming packet e.0.next.later e.0.next.is) refl refl (omega arith) tt h
-  passes visited noted kept l = λ h e. go_to (Sending Turning seat.classes nothing_due) Idling noted.progress noted.progress kept kept l refl (omega arith) refl refl refl (omega arith) tt h
-  passes idles noted kept l = λ h e. go_to Idling Starting noted.progress false kept kept l refl (omega arith) refl refl refl (omega arith) tt h
-  passes arms noted kept l = λ h e. go_to Idling (Arming 0) noted.progress noted.progress kept kept l refl (omega arith) refl refl refl (omega arith) (e.3, e.2) h
-  passes (seeks packet s) noted kept l = λ h e.
+  silent visited noted kept l = λ h e. go_to (Sending Turning seat.classes nothing_due) Idling noted.progress noted.progress kept kept l refl (omega arith) refl refl refl (omega arith) tt h
+  silent idles noted kept l = λ h e. go_to Idling Starting noted.progress false kept kept l refl (omega arith) refl refl refl (omega arith) tt h
+  silent arms noted kept l = λ h e. go_to Idling (Arming 0) noted.progress noted.progress kept kept l refl (omega arith) refl refl refl (omega arith) (e.3, e.2) h
+  silent (seeks packet s) noted kept l = λ h e.
       go_to (Arming seat.classes) (Trying Again packet s nothing_due) noted.progress noted.progress kept kept l refl (omega arith) refl refl refl (omega (arith, few, ap eleven h.quiet.0)) h.quiet.1 h
-  passes (sought packet s) noted kept l = λ h e. go_to (Trying Again packet s nothing_due) (Sending Again 0 nothing_due) noted.progress noted.progress kept kept l refl (omega arith) refl refl refl (omega arith) h.quiet h
-  passes (misses packet s) noted kept l = λ h e. go_to (Lacking Again packet s false) (Sending Again 0 nothing_due) noted.progress noted.progress kept kept l refl (omega arith) refl refl refl (omega arith) h.quiet h
-  passes looks noted kept l = λ h e.
+  silent (sought packet s) noted kept l = λ h e. go_to (Trying Again packet s nothing_due) (Sending Again 0 nothing_due) noted.progress noted.progress kept kept l refl (omega arith) refl refl refl (omega arith) h.quiet h
+  silent (misses packet s) noted kept l = λ h e. go_to (Lacking Again packet s false) (Sending Again 0 nothing_due) noted.progress noted.progress kept kept l refl (omega arith) refl refl refl (omega arith) h.quiet h
+  silent looks noted kept l = λ h e.
       go_to (Arming seat.classes) (Sending Again 0 nothing_due) noted.progress noted.progress kept kept l refl (omega arith) refl refl refl (omega (arith, few, ap eleven h.quiet.0)) h.quiet.1 h
-  passes finds noted kept l = λ h e.
+  silent finds noted kept l = λ h e.
       go_to (Sending Again seat.classes nothing_due) (Disarming (awaits noted) 0) noted.progress noted.progress kept kept l refl (omega arith) refl refl refl (omega (arith, ap eleven e)) tt h
-  passes parks noted kept l = λ h e.
+  silent parks noted kept l = λ h e.
       go_to (Sending Again seat.classes nothing_due) (Parked (awaits noted)) noted.progress false kept (record kept { parked = Some (awaits noted) }) l refl (omega arith) refl refl refl (omega arith) tt h
-  passes disarmed noted kept l = λ h e. go_to (Disarming false seat.classes) Starting noted.progress false kept kept l refl (omega arith) refl refl refl (omega (arith, few)) tt h
+  silent disarmed noted kept l = λ h e. go_to (Disarming false seat.classes) Starting noted.progress false kept kept l refl (omega arith) refl refl refl (omega (arith, few)) tt h
 
   law : IsLaw seat (Lawful c d) At Asked (λ kept l. Spent d packets l)
   law = record {
     calls = calls;
     entries = entries;
-    passes = passes;
+    silent = silent;
     ends = λ noted kept l n known h a q.
         let t : Told = record { call = Swap (Gone d) 1; reply = Old n } in
         record {

@@ -4,10 +4,10 @@ use Rattle.std.specs.List.{slice_index_or}
 use Rattle.xsk_umem.specs.Frame.{Frame}
 use Rattle.xsk_model.specs.Config.{classes_of}
 use Rattle.xsk_model.specs.Entry.{Entry, own}
-use Rattle.xsk_turns.specs.Sending.{sent_by_act}
+use Rattle.xsk_turns.specs.SentWith.{sent_by_act}
 use Rattle.xsk_turns.specs.Workers.{Setting, input_of}
 use Rattle.xsk_turns.specs.declared.disposal.DriverCounters.{DriverCounters}
-use Rattle.xsk_driver.specs.Sent.{Exceeds}
+use Rattle.xsk_driver.specs.SentRoom.{Exceeds}
 use Rattle.xsk_machine.specs.Figures.{figures_in}
 use Rattle.xsk_bench.specs.Played.{HasPlayed, act_of}
 use Rattle.xsk_bench.specs.declared.play.Play.{Play}

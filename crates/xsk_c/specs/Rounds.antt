@@ -5,7 +5,7 @@ use Rattle.xsk_umem.specs.declared.memory.OutOfMemory.{OutOfMemory}
 use Rattle.xsk_model.specs.Entry.{Entry}
 use Rattle.xsk_turns.specs.Workers.{Setting}
 use Rattle.xsk_bench.specs.Played.{HasPlayed}
-use Rattle.xsk_bench.specs.Playing.{HadRound, HadRounds}
+use Rattle.xsk_bench.specs.DriverRounds.{HadRound, HadRounds}
 use Rattle.xsk_bench.specs.declared.play.Play.{Play}
 use Rattle.xsk_c.specs.declared.answers.TheConstants.{DONE, NO_MEMORY}
 

@@ -3,7 +3,7 @@
 use crate::Blame;
 use std::alloc::{AllocError, Global};
 use std::fmt::Write;
-use xsk_judge::{Denial, Known, Place, Rule, Why};
+use xsk_judge::{Denial, Known, Rule, Whereabouts, Why};
 use xsk_model::Ring;
 use xsk_side::{Answer, Call, Setting};
 use xsk_umem::XdpDesc;
@@ -227,8 +227,8 @@ fn push_cancel(text: &mut String, blamed: &Blamed<'_>, held: u32) -> Result<(), 
 fn push_known(alloc: Global, text: &mut String, known: Known) -> Result<(), AllocError> {
     let since = known.since;
     match known.place {
-        Place::Start => text.push_str("the program has had it from the start"),
-        Place::Peeked(ring, _) => {
+        Whereabouts::Start => text.push_str("the program has had it from the start"),
+        Whereabouts::Peeked(ring, _) => {
             let name = name_of(alloc, ring)?;
             let name = name.as_str();
             write!(
@@ -236,7 +236,7 @@ fn push_known(alloc: Global, text: &mut String, known: Known) -> Result<(), Allo
                 "the program has had it since line {since} (peek {name})"
             )
         }
-        Place::Given(ring) => {
+        Whereabouts::Given(ring) => {
             let name = name_of(alloc, ring)?;
             let name = name.as_str();
             write!(
@@ -248,7 +248,7 @@ fn push_known(alloc: Global, text: &mut String, known: Known) -> Result<(), Allo
                 _ => Ok(()),
             }
         }
-        Place::Again(ring) => {
+        Whereabouts::Again(ring) => {
             let name = name_of(alloc, ring)?;
             let name = name.as_str();
             write!(
@@ -452,7 +452,7 @@ fn push_other_pair(
     let (frame, _addr) = frame_of(blamed, i);
     write!(text, "(other pair): frame {frame} comes on {ring}")?;
     match known.place {
-        Place::Given(by) => {
+        Whereabouts::Given(by) => {
             let name = name_of(alloc, by)?;
             let name = name.as_str();
             write!(

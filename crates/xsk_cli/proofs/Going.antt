@@ -22,7 +22,7 @@ use Rattle.xsk_turns.specs.Inputs.{packets_of_port, packets_of_queue}
 use Rattle.xsk_turns.specs.Verdicts.{EachHas, IsGiven, MeetRules, judged}
 use Rattle.xsk_turns.specs.Turns.{Judged, bounces}
 use Rattle.xsk_turns.specs.Disposals.{bytes_in}
-use Rattle.xsk_turns.specs.Sending.{bounces_at, bouncing}
+use Rattle.xsk_turns.specs.SentWith.{bounces_at, bouncing}
 use Rattle.xsk_turns.proofs.Verdicts.{own_setting}
 use Rattle.xsk_laws.specs.Expected.{received, has_length, holds_socket, is_redirected, leads_to}
 use Rattle.xsk_laws.proofs.Bounced.{none_to_bounce}

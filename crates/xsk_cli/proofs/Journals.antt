@@ -8,7 +8,7 @@ use Rattle.xsk_model.specs.Entry.{Told, Entry}
 use Rattle.xsk_model.specs.History.{IsHistory}
 use Rattle.xsk_model.specs.Stored.{stored_entry}
 use Rattle.xsk_turns.specs.Workers.{Setting, IsWholeRun}
-use Rattle.xsk_machine.specs.Figured.{figures_of}
+use Rattle.xsk_machine.specs.HistoryFigures.{figures_of}
 use Rattle.xsk_sim.specs.Journal.{round_of, rounds_from, rounds_of, journal_from, journal_of}
 use Rattle.xsk_sim.specs.Rounds.{AreInRounds}
 use Rattle.xsk_sim.specs.Runs.{HasEnded}

@@ -6,7 +6,7 @@ use Rattle.std.proofs.lemmas.List.{map-append}
 use Rattle.std.proofs.lemmas.List.FromFn.{sum_by-map-range_with_len_more}
 use Rattle.xsk_turns.specs.declared.manner.Manner.{Manner}
 use Rattle.xsk_umem.specs.PacketList.{PacketList}
-use Rattle.xsk_driver.specs.Sent.{IsShort}
+use Rattle.xsk_driver.specs.SentRoom.{IsShort}
 use Rattle.xsk_gen.specs.Generator.{first, packet}
 use Rattle.xsk_gen.proofs.Sizes.{all_first, bytes_first, length-first, length-packet}
 use Rattle.xsk_socket.specs.declared.layout.Layout.{Layout}

@@ -24,7 +24,7 @@ use Rattle.xsk_model.specs.Steering.{paired_port, driver_on, socket_on}
 use Rattle.xsk_model.proofs.Closings.{all_completed}
 use Rattle.xsk_model.proofs.Seats.{IsAt, below, is_at}
 use Rattle.xsk_turns.specs.Inputs.{packets_of_queue}
-use Rattle.xsk_turns.specs.Sending.{bouncing}
+use Rattle.xsk_turns.specs.SentWith.{bouncing}
 use Rattle.xsk_turns.specs.Turns.{Judged}
 use Rattle.xsk_turns.specs.declared.manner.Manner.{Manner}
 use Rattle.xsk_turns.specs.Hands.{IsWholeRunOf}

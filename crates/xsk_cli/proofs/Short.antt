@@ -5,7 +5,7 @@ use Rattle.std.specs.List.{range_with_len}
 use Rattle.std.proofs.lemmas.List.{length-map, get_or-map}
 use Rattle.std.proofs.lemmas.List.Elements.{All-from_recursion}
 use Rattle.xsk_umem.specs.PacketList.{PacketList}
-use Rattle.xsk_driver.specs.Sent.{IsShort}
+use Rattle.xsk_driver.specs.SentRoom.{IsShort}
 use Rattle.xsk_gen.specs.Generator.{first, packet}
 use Rattle.xsk_gen.proofs.Sizes.{all_first, length-packet}
 use Rattle.xsk_sim.specs.Shown.{HasShortPackets}

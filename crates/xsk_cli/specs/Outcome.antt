@@ -16,7 +16,7 @@ use Rattle.xsk_ended.specs.Until.{AreExpectedUntil, AreForwardedUntil}
 use Rattle.xsk_socket.specs.declared.layout.Layout.{Layout}
 use Rattle.xsk_socket.specs.Layout.{fault_of}
 use Rattle.xsk_socket.specs.Regular.{regular_of}
-use Rattle.xsk_machine.specs.Figured.{figures_of}
+use Rattle.xsk_machine.specs.HistoryFigures.{figures_of}
 use Rattle.xsk_stats.specs.Report.{report_text}
 use Rattle.xsk_sim.specs.Journal.{journal_of, rounds_of}
 use Rattle.xsk_sim.specs.Rounds.{AreInRounds}

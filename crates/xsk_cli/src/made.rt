@@ -2,7 +2,7 @@
 ghost use Rattle.std.specs.Prelude.{◌≡◌, ◌≤◌, ◌<◌, ◌∷◌, [], ◌++◌, All, IfOk, codes, length, map};
 ghost use Rattle.std.specs.Fmt.{decimal};
 ghost use Rattle.std.specs.List.{concat};
-ghost use Rattle.xsk_driver.specs.Sent.{IsShort};
+ghost use Rattle.xsk_driver.specs.SentRoom.{IsShort};
 ghost use Rattle.xsk_gen.specs.Generator.{first, packet};
 ghost use Rattle.xsk_cli.specs.Outcome.{AreTextsBy, capture_of, listed, made_lists, report_on};
 ghost use Rattle.xsk_cli.specs.Steps.{CanBeLaid, lists_in, outputs_in, written_in};

@@ -1,7 +1,7 @@
 //! The run of a command on threads, and the texts of what it shows.
 ghost use Rattle.std.specs.Prelude.{◌≡◌, ℕ, ◌*◌, ◌<◌, ◌≤◌, None, Some, All, List, IfErr, IfOk, drop, true, length, map, take};
 ghost use Rattle.std.specs.List.{range_with_len};
-ghost use Rattle.xsk_driver.specs.Sent.{IsShort};
+ghost use Rattle.xsk_driver.specs.SentRoom.{IsShort};
 ghost use Rattle.xsk_machine.specs.Acts.{HasShortPackets};
 ghost use Rattle.xsk_model.specs.Config.{IsRegular};
 ghost use Rattle.xsk_pcap.specs.Written.{IsWritable};

@@ -1,7 +1,7 @@
 //! The texts that a command writes.
 ghost use Rattle.std.specs.Prelude.{◌≡◌, ℕ, ◌+◌, ◌*◌, ◌<◌, ◌≤◌, All, IfOk, drop, length, map, take};
 ghost use Rattle.std.specs.List.{concat, range_with_len};
-ghost use Rattle.xsk_driver.specs.Sent.{IsShort};
+ghost use Rattle.xsk_driver.specs.SentRoom.{IsShort};
 ghost use Rattle.xsk_pcap.specs.Written.{IsWritable, written};
 ghost use Rattle.xsk_pcapng.specs.Written.{IsWritable as IsWritableFile};
 ghost use Rattle.xsk_cli.specs.Format.{joined, outputs_of};

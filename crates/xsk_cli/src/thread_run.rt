@@ -1,7 +1,7 @@
 //! The run of a command on threads, and what it shows from where it has ended.
 ghost use Rattle.std.specs.Prelude.{◌≡◌, ℕ, ◌<◌, [], All, IfOk, List, length, map, true};
 ghost use Rattle.std.specs.List.{slice_index_or};
-ghost use Rattle.xsk_driver.specs.Sent.{IsShort};
+ghost use Rattle.xsk_driver.specs.SentRoom.{IsShort};
 ghost use Rattle.xsk_machine.specs.Acts.{HasShortPackets, packets_in};
 ghost use Rattle.xsk_model.specs.Config.{IsRegular};
 ghost use Rattle.xsk_model.specs.Opening.{AreFrames};

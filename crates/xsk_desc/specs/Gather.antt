@@ -3,14 +3,14 @@ use Rattle.std.specs.Prelude.{◌≡◌, Option, Some, None, List}
 use Rattle.xsk_umem.specs.Geometry.{Geometry}
 use Rattle.xsk_umem.specs.declared.batch.Item.{Item}
 use Rattle.xsk_model.specs.Packets.{Packet, whole, bad, rest}
-use Rattle.xsk_desc.specs.Gathering.{Gathering}
+use Rattle.xsk_desc.specs.Unfinished.{Unfinished}
 use Rattle.xsk_desc.specs.declared.gather.Gathered.{Gathered}
 use Rattle.xsk_desc.specs.declared.gather.Gathered.TheVariants.{More as Pending, Whole as Ended, Bad as Broken}
 use Rattle.xsk_desc.specs.declared.gather.Ending.{Ending}
 use Rattle.xsk_desc.specs.declared.gather.Ending.TheVariants.{More, Whole, Bad}
 
 -- the list of all items that were pushed may be this one: what is kept is its unfinished rest
-abbrev pub StandsFor : Geometry → Gathering → List Item → Type 0
+abbrev pub StandsFor : Geometry → Unfinished → List Item → Type 0
 StandsFor g gather items = rest g gather.sg items ≡ gather.items
 
 -- the packet that an item ended, if any: these items with it

@@ -1,4 +1,4 @@
 pub mod Fault
 pub mod Gather
-pub mod Gathering
+pub mod Unfinished
 pub mod Laws

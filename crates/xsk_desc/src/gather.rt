@@ -4,7 +4,7 @@ ghost use Rattle.xsk_umem.specs.Geometry.{Geometry as Numbers};
 ghost use Rattle.xsk_umem.specs.declared.batch.Item.{Item as AnItem};
 ghost use Rattle.xsk_model.specs.Limits.{most_fragments};
 ghost use Rattle.xsk_model.specs.Packets.{ended_by, group_after, packets};
-ghost use Rattle.xsk_desc.specs.Gathering.{Gathering};
+ghost use Rattle.xsk_desc.specs.Unfinished.{Unfinished};
 ghost use Rattle.xsk_desc.specs.Gather.{packet_by};
 
 use crate::descriptor::validate;
@@ -60,9 +60,9 @@ pub struct Gather {
 
 impl Model for Gather {
     ghost use Rattle.std.specs.Prelude.{◌≤◌, length};
-    ghost use Rattle.xsk_desc.specs.Gathering.{Gathering};
+    ghost use Rattle.xsk_desc.specs.Unfinished.{Unfinished};
 
-    ghost Value = { Gathering };
+    ghost Value = { Unfinished };
 
     ghost view = { λ g. record { items = g.items; sg = g.sg } };
 

@@ -5,14 +5,14 @@ use Rattle.xsk_turns.proofs.Calls.{Call}
 use Rattle.xsk_model.specs.Packets.{bytes_of}
 use Rattle.std.specs.List.{slice_index_or}
 use Rattle.xsk_model.specs.declared.call.Act.TheVariants.{Call as Gave}
-use Rattle.xsk_turns.specs.Sending.{is_bouncing, is_completing, sent_by}
+use Rattle.xsk_turns.specs.SentWith.{is_bouncing, is_completing, sent_by}
 use Rattle.xsk_turns.specs.Turns.{Kept}
-use Rattle.xsk_driver.specs.Sent.{Sends}
-use Rattle.xsk_driver.specs.Sendings.{sent_in, sendings_of}
+use Rattle.xsk_driver.specs.SentRoom.{Sends}
+use Rattle.xsk_driver.specs.Outbox.{sent_in, outbox_of}
 use Rattle.xsk_driver.specs.Gives.{SendsBy, SendsAll, counts_bounced, bounced_by}
 use Rattle.xsk_driver.specs.Stands.{seat_in, kept_in, first}
 use Rattle.xsk_driver.specs.declared.machine.Machine.{Machine}
-use Rattle.xsk_driver.specs.declared.sending.Sending.{Sending}
+use Rattle.xsk_driver.specs.declared.outbox.Outbox.{Outbox}
 use Rattle.xsk_driver.specs.declared.machine.Wait.{Wait}
 use Rattle.xsk_driver.specs.declared.machine.Wait.TheVariants.{TellBounced}
 
@@ -40,9 +40,9 @@ sends_bounced old mid now call bytes is counts same packet sends adds packets be
     (subst (λ (ps : List (List ℕ)). Sends (sent_in now) ps) (append_assoc packets completed (bytes ∷ [])) (adds (packets ++ completed) (sends packets before)))
 
 -- where nothing is completed, nothing is sent before
-pub quiet_by : (old mid : Machine) (call : Call) → mid.sending ≡ old.sending → is_completing call ≡ false → SendsBy old mid (Gave call)
+pub quiet_by : (old mid : Machine) (call : Call) → mid.outbox ≡ old.outbox → is_completing call ≡ false → SendsBy old mid (Gave call)
 quiet_by old mid call same quiet packets before =
     let seat = seat_in old in
     let kept = kept_in old in
     subst (λ (b : Bool). Sends (sent_in mid) (packets ++ (cond b (bytes_of seat.config.geometry seat.config.sg (slice_index_or kept.finished 0 []) ∷ []) []))) (sym quiet)
-    (subst (λ (ps : List (List ℕ)). Sends (sent_in mid) ps) (sym (append-nil packets)) (subst (λ (s : Sending). Sends (sendings_of s) packets) (sym same) before))
+    (subst (λ (ps : List (List ℕ)). Sends (sent_in mid) ps) (sym (append-nil packets)) (subst (λ (s : Outbox). Sends (outbox_of s) packets) (sym same) before))

@@ -3,7 +3,7 @@ use Rattle.std.proofs.Common.{◌≡◌, ℕ, ◌+◌, ◌<◌, ◌≤◌, Bool,
 use Rattle.std.specs.List.{concat}
 use Rattle.std.proofs.Math.Bool.{and-false}
 use Rattle.xsk_turns.specs.Turns.{Judged, bounces}
-use Rattle.xsk_turns.specs.Sending.{bounces_at, bouncing}
+use Rattle.xsk_turns.specs.SentWith.{bounces_at, bouncing}
 use Rattle.xsk_turns.specs.Verdicts.{judged}
 use Rattle.xsk_prog.specs.declared.rule.Verdict.{Verdict}
 use Rattle.xsk_prog.specs.declared.rule.Verdict.TheVariants.{Drop, Pass, Redirect, Bounce}

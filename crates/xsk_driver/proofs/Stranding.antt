@@ -3,7 +3,7 @@ use Rattle.std.proofs.Common.{◌≡◌, ℕ, ◌+◌, ◌-◌, ◌<◌, min, Li
 use Rattle.std.proofs.lemmas.List.{take_more}
 use Rattle.std.proofs.lemmas.List.Sums.{sum_by-cons}
 use Rattle.xsk_umem.specs.declared.batch.Item.{Item}
-use Rattle.xsk_turns.specs.Counted.{capped}
+use Rattle.xsk_turns.specs.Statistics.{capped}
 use Rattle.xsk_turns.specs.Stranded.{items_in, stranded_in, stranded_of, sent_count, completed_count, frames_completed}
 use Rattle.xsk_turns.specs.Turns.{Judged, seat_of}
 use Rattle.xsk_turns.specs.declared.wire.Wire.{Wire}

@@ -1,6 +1,6 @@
 -- The packets that a driver's machine is to bounce.
 use Rattle.std.specs.Prelude.{ℕ, List, map, drop}
-use Rattle.xsk_turns.specs.Sending.{bouncing}
+use Rattle.xsk_turns.specs.SentWith.{bouncing}
 use Rattle.xsk_turns.specs.Verdicts.{judged}
 use Rattle.xsk_driver.specs.Stands.{packet_at}
 use Rattle.xsk_driver.specs.declared.machine.Machine.{Machine}

@@ -2,7 +2,7 @@
 //! wanted, between two exchanges, it waits for each line alone; read one behind the other they come side by side.
 ghost use Rattle.std.specs.Prelude.{◌≡◌, ◌*◌, ◌≤◌, length};
 
-use crate::sending::Sending;
+use crate::outbox::Outbox;
 use xsk_prog::Verdict;
 use xsk_umem::{Batch, Item, PacketList};
 
@@ -58,13 +58,13 @@ impl Ahead {
     }
 
     /// Reads the ends of what items of a TX ring name, and writes ahead where it's to be kept, unless they are few.
-    pub(crate) fn read_and_write(&mut self, items: &Batch, sending: &mut Sending)
-        ensures { sending.new ≡ sending.old }
+    pub(crate) fn read_and_write(&mut self, items: &Batch, outbox: &mut Outbox)
+        ensures { outbox.new ≡ outbox.old }
     {
         let count = items.len();
         if count >= FEWEST {
             let bytes = self.read_items(items);
-            sending.write_ahead(count, bytes);
+            outbox.write_ahead(count, bytes);
         }
     }
 

@@ -5,13 +5,13 @@ ghost use Rattle.std.specs.VecDeque.{deque_capacity};
 ghost use Rattle.xsk_umem.specs.Geometry.{IsGeometry};
 ghost use Rattle.xsk_model.specs.Limits.{most_fragments};
 ghost use Rattle.xsk_model.specs.Packets.{bytes_of};
-ghost use Rattle.xsk_turns.specs.Counted.{capped};
+ghost use Rattle.xsk_turns.specs.Statistics.{capped};
 ghost use Rattle.xsk_turns.specs.Stranded.{items_in};
 ghost use Rattle.xsk_turns.specs.Turns.{frames_in, returned as item_returned};
-ghost use Rattle.xsk_driver.specs.Sent.{Sends, last_length};
-ghost use Rattle.xsk_driver.specs.Sendings.{sendings_of};
+ghost use Rattle.xsk_driver.specs.SentRoom.{Sends, last_length};
+ghost use Rattle.xsk_driver.specs.Outbox.{outbox_of};
 
-use crate::sending::Sending;
+use crate::outbox::Outbox;
 use std::alloc::Global;
 use std::collections::VecDeque;
 use std::marker::Model;
@@ -97,7 +97,7 @@ impl Finished {
         &mut self,
         geometry: &Geometry,
         sg: bool,
-        sending: &mut Sending,
+        outbox: &mut Outbox,
         items: &mut Batch,
     )
         requires some { 1 ≤ length self.old }
@@ -105,12 +105,12 @@ impl Finished {
         requires empty { items.old ≡ [] }
         ensures packets { self.new ≡ drop 1 self.old }
         ensures items { items.new ≡ map item_returned (slice_index_or self.old 0 []) }
-        ensures limits { (sending.new.most_packets ≡ sending.old.most_packets) × (sending.new.most_bytes ≡ sending.old.most_bytes) }
-        ensures sends { (packets : List (List ℕ)) → Sends (sendings_of sending.old) packets
-            → Sends (sendings_of sending.new) (packets ++ bytes_of geometry.now sg (slice_index_or self.old 0 []) ∷ []) }
+        ensures limits { (outbox.new.most_packets ≡ outbox.old.most_packets) × (outbox.new.most_bytes ≡ outbox.old.most_bytes) }
+        ensures sends { (packets : List (List ℕ)) → Sends (outbox_of outbox.old) packets
+            → Sends (outbox_of outbox.new) (packets ++ bytes_of geometry.now sg (slice_index_or self.old 0 []) ∷ []) }
     {
         let length = self.lengths.pop_front().unwrap();
-        send(&mut self.items, length, geometry, sg, sending, items);
+        send(&mut self.items, length, geometry, sg, outbox, items);
     }
 }
 
@@ -144,7 +144,7 @@ fn send(
     count: u32,
     geometry: &Geometry,
     sg: bool,
-    sending: &mut Sending,
+    outbox: &mut Outbox,
     items: &mut Batch,
 )
     requires lawful { IsGeometry geometry.now }
@@ -154,16 +154,16 @@ fn send(
     ensures queue { queue.new.items ≡ drop count queue.old.items }
     ensures items { items.new ≡ map item_returned (take count queue.old.items) }
     ensures capacity { deque_capacity queue.new ≡ deque_capacity queue.old }
-    ensures limits { (sending.new.most_packets ≡ sending.old.most_packets) × (sending.new.most_bytes ≡ sending.old.most_bytes) }
-    ensures sends { (packets : List (List ℕ)) → Sends (sendings_of sending.old) packets
-        → Sends (sendings_of sending.new) (packets ++ bytes_of geometry.now sg (take count queue.old.items) ∷ []) }
+    ensures limits { (outbox.new.most_packets ≡ outbox.old.most_packets) × (outbox.new.most_bytes ≡ outbox.old.most_bytes) }
+    ensures sends { (packets : List (List ℕ)) → Sends (outbox_of outbox.old) packets
+        → Sends (outbox_of outbox.new) (packets ++ bytes_of geometry.now sg (take count queue.old.items) ∷ []) }
 {
     if count == 1 {
-        send_whole(queue, geometry, sg, sending, items);
+        send_whole(queue, geometry, sg, outbox, items);
         return;
     }
-    sending.begin();
-    send_pieces(queue, count, geometry, sg, sending, items);
+    outbox.begin();
+    send_pieces(queue, count, geometry, sg, outbox, items);
 }
 
 /// Takes the first item of the queue, a packet of its own: keeps its bytes as sent, and puts the item with its address alone
@@ -172,7 +172,7 @@ fn send_whole(
     queue: &mut VecDeque<Item>,
     geometry: &Geometry,
     sg: bool,
-    sending: &mut Sending,
+    outbox: &mut Outbox,
     items: &mut Batch,
 )
     requires lawful { IsGeometry geometry.now }
@@ -181,12 +181,12 @@ fn send_whole(
     ensures queue { queue.new.items ≡ drop 1 queue.old.items }
     ensures items { items.new ≡ map item_returned (take 1 queue.old.items) }
     ensures capacity { deque_capacity queue.new ≡ deque_capacity queue.old }
-    ensures limits { (sending.new.most_packets ≡ sending.old.most_packets) × (sending.new.most_bytes ≡ sending.old.most_bytes) }
-    ensures sends { (packets : List (List ℕ)) → Sends (sendings_of sending.old) packets
-        → Sends (sendings_of sending.new) (packets ++ bytes_of geometry.now sg (take 1 queue.old.items) ∷ []) }
+    ensures limits { (outbox.new.most_packets ≡ outbox.old.most_packets) × (outbox.new.most_bytes ≡ outbox.old.most_bytes) }
+    ensures sends { (packets : List (List ℕ)) → Sends (outbox_of outbox.old) packets
+        → Sends (outbox_of outbox.new) (packets ++ bytes_of geometry.now sg (take 1 queue.old.items) ∷ []) }
 {
     let item = queue.pop_front().unwrap();
-    sending.add(payload_of(&item, geometry, sg));
+    outbox.add(payload_of(&item, geometry, sg));
     items.push(returned(item));
     if queue.is_empty() {
         begin_at_first(queue);
@@ -200,24 +200,24 @@ fn send_pieces(
     count: u32,
     geometry: &Geometry,
     sg: bool,
-    sending: &mut Sending,
+    outbox: &mut Outbox,
     items: &mut Batch,
 )
     requires lawful { IsGeometry geometry.now }
     requires few { count ≤ most_fragments }
     requires some { count ≤ length queue.old.items }
     requires empty { items.old ≡ [] }
-    requires begun { sending.old.overrun ≡ false → last_length sending.old.list.packets ≡ 0 }
+    requires begun { outbox.old.overrun ≡ false → last_length outbox.old.list.packets ≡ 0 }
     ensures queue { queue.new.items ≡ drop count queue.old.items }
     ensures items { items.new ≡ map item_returned (take count queue.old.items) }
     ensures capacity { deque_capacity queue.new ≡ deque_capacity queue.old }
-    ensures limits { (sending.new.most_packets ≡ sending.old.most_packets) × (sending.new.most_bytes ≡ sending.old.most_bytes) }
-    ensures sends { (packets : List (List ℕ)) → Sends (sendings_of sending.old) (packets ++ [] ∷ [])
-        → Sends (sendings_of sending.new) (packets ++ bytes_of geometry.now sg (take count queue.old.items) ∷ []) }
+    ensures limits { (outbox.new.most_packets ≡ outbox.old.most_packets) × (outbox.new.most_bytes ≡ outbox.old.most_bytes) }
+    ensures sends { (packets : List (List ℕ)) → Sends (outbox_of outbox.old) (packets ++ [] ∷ [])
+        → Sends (outbox_of outbox.new) (packets ++ bytes_of geometry.now sg (take count queue.old.items) ∷ []) }
 {
     for _ in 0..count {
         let item = queue.pop_front().unwrap();
-        sending.extend(payload_of(&item, geometry, sg));
+        outbox.extend(payload_of(&item, geometry, sg));
         items.push(returned(item));
     }
 }

@@ -9,19 +9,19 @@ use xsk_prog::Verdict;
 
 /// The machine's room to send.
 impl<'a> Machine<'a> {
-    ghost use Rattle.xsk_turns.specs.Sending.{bouncing};
-    ghost use Rattle.xsk_driver.specs.Sent.{Sends};
-    ghost use Rattle.xsk_driver.specs.Sendings.{sent_in};
+    ghost use Rattle.xsk_turns.specs.SentWith.{bouncing};
+    ghost use Rattle.xsk_driver.specs.SentRoom.{Sends};
+    ghost use Rattle.xsk_driver.specs.Outbox.{sent_in};
     ghost use Rattle.xsk_driver.specs.Stands.{kept_in, noted_in, seat_in};
     ghost use Rattle.xsk_driver.specs.Bouncing.{bouncing_from};
 
     /// Lowers the room to send to that for so many packets and bytes, and beside them for those of its own packets that are to bounce.
     pub(crate) fn fit(&mut self, alloc: Global, packets: u32, bytes: u32)
         requires unsent { Sends (sent_in self.old) [] }
-        requires packets { packets + length (bouncing (kept_in self.old).coming) ≤ self.old.sending.most_packets }
-        requires bytes { bytes + length (concat (bouncing (kept_in self.old).coming)) ≤ self.old.sending.most_bytes }
-        ensures packets { self.new.sending.most_packets ≡ packets + length (bouncing (kept_in self.old).coming) }
-        ensures bytes { self.new.sending.most_bytes ≡ bytes + length (concat (bouncing (kept_in self.old).coming)) }
+        requires packets { packets + length (bouncing (kept_in self.old).coming) ≤ self.old.outbox.most_packets }
+        requires bytes { bytes + length (concat (bouncing (kept_in self.old).coming)) ≤ self.old.outbox.most_bytes }
+        ensures packets { self.new.outbox.most_packets ≡ packets + length (bouncing (kept_in self.old).coming) }
+        ensures bytes { self.new.outbox.most_bytes ≡ bytes + length (concat (bouncing (kept_in self.old).coming)) }
         ensures unsent { Sends (sent_in self.new) [] }
         ensures seat { seat_in self.new ≡ seat_in self.old }
         ensures wait { self.new.wait ≡ self.old.wait }
@@ -29,7 +29,7 @@ impl<'a> Machine<'a> {
         ensures kept { kept_in self.new ≡ kept_in self.old }
     {
         let (bounced_packets, bounced_bytes) = self.count_bouncing();
-        self.sending
+        self.outbox
             .fit(alloc, packets + bounced_packets, bytes + bounced_bytes);
     }
 

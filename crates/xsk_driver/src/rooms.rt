@@ -1,13 +1,13 @@
 //! What a driver keeps its packets and frames in.
 ghost use Rattle.std.specs.Prelude.{◌≡◌, ◌≤◌, [], IfOk, replicate, vec_capacity};
 ghost use Rattle.std.specs.VecDeque.{deque_capacity};
-ghost use Rattle.xsk_driver.specs.Sent.{Sends};
-ghost use Rattle.xsk_driver.specs.Sendings.{sendings_of};
+ghost use Rattle.xsk_driver.specs.SentRoom.{Sends};
+ghost use Rattle.xsk_driver.specs.Outbox.{outbox_of};
 
 use crate::disposal::Disposal;
 use crate::finished::Finished;
 use crate::machine::MOST_SPARE;
-use crate::sending::Sending;
+use crate::outbox::Outbox;
 use std::alloc::Global;
 use std::collections::VecDeque;
 use xsk_umem::{Batch, Frame, OutOfMemory};
@@ -20,7 +20,7 @@ pub(crate) struct Rooms {
     pub(crate) groups: Vec<Batch>,
     pub(crate) finished: Finished,
     pub(crate) lost: Vec<Frame>,
-    pub(crate) sending: Sending,
+    pub(crate) outbox: Outbox,
 }
 
 impl Rooms {
@@ -38,8 +38,8 @@ impl Rooms {
         ensures groups { IfOk result (λ r. r.groups.items ≡ replicate classes []) }
         ensures finished { IfOk result (λ r. r.finished ≡ []) }
         ensures lost { IfOk result (λ r. (r.lost.items ≡ []) × (frames ≤ vec_capacity r.lost)) }
-        ensures limits { IfOk result (λ r. (r.sending.most_packets ≡ sent_packets) × (r.sending.most_bytes ≡ sent_bytes)) }
-        ensures sends { IfOk result (λ r. Sends (sendings_of r.sending) []) }
+        ensures limits { IfOk result (λ r. (r.outbox.most_packets ≡ sent_packets) × (r.outbox.most_bytes ≡ sent_bytes)) }
+        ensures sends { IfOk result (λ r. Sends (outbox_of r.outbox) []) }
     {
         Ok(Rooms {
             disposals: Vec::with_capacity(alloc, disposals)?,
@@ -47,7 +47,7 @@ impl Rooms {
             groups: empty_groups(alloc, classes)?,
             finished: Finished::new(alloc)?,
             lost: Vec::with_capacity(alloc, frames as usize)?,
-            sending: Sending::new(alloc, sent_packets, sent_bytes)?,
+            outbox: Outbox::new(alloc, sent_packets, sent_bytes)?,
         })
     }
 }

@@ -3,7 +3,7 @@ ghost use Rattle.std.specs.Prelude.{◌≡◌, ◌<◌, ◌≤◌, All, IfOk, On
 ghost use Rattle.xsk_prog.specs.Chain.{AllObey, SamePrograms};
 ghost use Rattle.xsk_turns.specs.Verdicts.{EachHas, IsGiven};
 ghost use Rattle.xsk_driver.specs.Asking.{AreAsked, IsAnswer, IsAsked, packets_by, questions_on};
-ghost use Rattle.xsk_driver.specs.Sent.{IsShort};
+ghost use Rattle.xsk_driver.specs.SentRoom.{IsShort};
 
 use crate::machine::LEAST_BYTES;
 use std::alloc::Global;

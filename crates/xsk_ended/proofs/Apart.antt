@@ -6,12 +6,12 @@ use Rattle.xsk_model.specs.Config.{Config, classes_of}
 use Rattle.xsk_turns.proofs.Calls.{Told, Call}
 use Rattle.xsk_turns.specs.Turns.{Seat, Judged, Kept, seat_of, start, turn, settled, IsWholeDriverRun}
 use Rattle.xsk_turns.specs.Disposals.{attempts_of, disposals_of}
-use Rattle.xsk_turns.specs.Sending.{bounces_at, bouncing}
+use Rattle.xsk_turns.specs.SentWith.{bounces_at, bouncing}
 use Rattle.xsk_turns.specs.declared.wire.Wire.{Wire}
 use Rattle.xsk_turns.specs.declared.disposal.Disposal.{Disposal}
 use Rattle.xsk_turns.specs.declared.disposal.Disposal.TheVariants.{Delivered, NoFrames, RxFull, TooLong, Missed, Bounced}
 use Rattle.xsk_turns.proofs.Walks.{Anything, meet_anything}
-use Rattle.xsk_turns.proofs.DriverPlaces.{Family, IsNext, told_rx_done, told_bounced, looked_none, looked_long, rx_submitted, looked_tx_done, found_end, untried, drops_full, drops_frameless, untried_has, AtEntries, AtPasses, IsLaw}
+use Rattle.xsk_turns.proofs.DriverStages.{Family, IsNext, told_rx_done, told_bounced, looked_none, looked_long, rx_submitted, looked_tx_done, found_end, untried, drops_full, drops_frameless, untried_has, AtEntries, AtSilent, IsLaw}
 use Rattle.xsk_turns.proofs.DriverWalk.{at_end}
 use Rattle.xsk_turns.proofs.Disposing.{IsOver, over_later, disposes_all}
 use Rattle.xsk_turns.specs.Totals.{total}
@@ -81,13 +81,13 @@ module _ (wire : Wire) (c : Config) (pair : ℕ) (input : List Judged) where
   entries (found_end n) noted kept l known found h a q = record { done = h.done; parts = h.parts; apart = h.apart; over = record { none = h.over.none; first = λ x. known.1 } }
   entries e noted kept l known found h a q = h
 
-  passes : AtPasses seat Anything At
-  passes (untried packet later d) noted kept l = λ h e.
+  silent : AtSilent seat Anything At
+  silent (untried packet later d) noted kept l = λ h e.
       settles kept packet later d l e.0 (λ f. untried_has (λ x. (m : ℕ) → is_from m x ≡ false) (λ m. refl) (λ m. refl) (λ m. refl) (λ m. refl) seat packet d e.1) h
-  passes (drops_full packet t) noted kept l = λ h e. settles kept packet e.0.next.later RxFull l e.0.next.is (λ f m. refl) h
-  passes (drops_frameless packet t) noted kept l = λ h e.
+  silent (drops_full packet t) noted kept l = λ h e. settles kept packet e.0.next.later RxFull l e.0.next.is (λ f m. refl) h
+  silent (drops_frameless packet t) noted kept l = λ h e.
       let now = settles kept packet e.0.next.later NoFrames l e.0.next.is (λ f m. refl) h in record { done = now.done; parts = now.parts; apart = now.apart; over = now.over }
-  passes p noted kept l = λ h e. h
+  silent p noted kept l = λ h e. h
 
   all_apart : (kept : Kept) (l : List Told) → kept.coming ≡ [] → Apart kept l → AreApart input kept.disposals
   all_apart kept l e h = subst (λ xs. AreApart xs kept.disposals) (sym (append-nil h.done) ∙ ap (λ xs. h.done ++ xs) (sym e) ∙ h.parts) h.apart
@@ -96,7 +96,7 @@ module _ (wire : Wire) (c : Config) (pair : ℕ) (input : List Judged) where
   law = record {
     calls = λ p noted kept l known h. tt;
     entries = entries;
-    passes = passes;
+    silent = silent;
     ends = λ noted kept l n known h a q. all_apart kept l (h.over.none (h.over.first known.2)) h;
   }
 

@@ -135,7 +135,7 @@ module _ (m : Manner) (none : m.mangle ≡ None) (c : Config) (a : ℕ) (one : I
     flag : kept.begun ≡ false → is_cut (peeked_of r l) ≡ is_set kept.cut side
     done : kept.begun ≡ true → is_cut (submitted_of t l) ≡ false
 
-  abbrev Lowers : walk.Place → List Told → Type 0
+  abbrev Lowers : walk.Stage → List Told → Type 0
   Lowers (walk.Lowering shut index) l = is_cut (submitted_of t l) ≡ false
   Lowers (walk.Waking place need pair) l = Lowers place l
   Lowers (walk.Looked place need pair n) l = Lowers place l
@@ -161,7 +161,7 @@ module _ (m : Manner) (none : m.mangle ≡ None) (c : Config) (a : ℕ) (one : I
   quiet : (old new : AppKept) (l : List Told) (call : Call) (reply : Reply) → new.cut ≡ old.cut → new.begun ≡ old.begun → taken reply ≡ [] → submitted call ≡ [] → Marks old l → Marks new (with_told l call reply)
   quiet old new l call reply cuts begun took gave h = same old new l (with_told l call reply) cuts begun (peeked_none r l call reply took) (none_submitted t l call reply gave) h
 
-  still_lowers : (place : walk.Place) (l : List Told) (call : Call) (reply : Reply) → submitted call ≡ [] → Lowers place l → Lowers place (with_told l call reply)
+  still_lowers : (place : walk.Stage) (l : List Told) (call : Call) (reply : Reply) → submitted call ≡ [] → Lowers place l → Lowers place (with_told l call reply)
   still_lowers (walk.Lowering shut index) l call reply gave h = ap is_cut (none_submitted t l call reply gave) ∙ h
   still_lowers (walk.Waking place need pair) l call reply gave h = still_lowers place l call reply gave h
   still_lowers (walk.Looked place need pair n) l call reply gave h = still_lowers place l call reply gave h
@@ -286,19 +286,19 @@ module _ (m : Manner) (none : m.mangle ≡ None) (c : Config) (a : ℕ) (one : I
     tt,
   )
 
-  passes : walk.AtPasses c a At
-  passes (walk.closes shut) noted kept l = λ h e.
+  silent : walk.AtSilent c a At
+  silent (walk.closes shut) noted kept l = λ h e.
       let begun : kept.begun ≡ false = off_of kept.begun (and_parts _ _ (and_parts _ _ (and_parts _ _ e.1).0).0).0 in
       let off : drains c a j kept ≡ false = ap (λ b. b && is_closed c a j c.closing) begun in
       let order = lanes.open_lane c.geometry m.mangle (drains c a j kept) _ _ _ off (h.0.order j below) in
       let front : order.front ≡ peeked_of r l =
       sym (append-nil order.front) ∙ ap (λ xs. order.front ++ xs) (sym (none_pends c a one shut (shut_mine c a shut e.0) kept j below on e.1)) ∙ order.whole in
       let out : submitted_of t l ≡ order.front = altered_same c.geometry order.front (submitted_of t l) (subst (λ x. AreAltered c.geometry x order.front (submitted_of t l)) none order.altered) in
-      ((lanes.law m c a one).passes (walk.closes shut) noted kept l h.0 e, h.1, ap is_cut (out ∙ front) ∙ h.1.flag begun ∙ flags_off c shut kept side side_low e.1)
-  passes p noted kept l = λ h e. ((lanes.law m c a one).passes p noted kept l h.0 e, h.1, h.2)
+      ((lanes.law m c a one).silent (walk.closes shut) noted kept l h.0 e, h.1, ap is_cut (out ∙ front) ∙ h.1.flag begun ∙ flags_off c shut kept side side_low e.1)
+  silent p noted kept l = λ h e. ((lanes.law m c a one).silent p noted kept l h.0 e, h.1, h.2)
 
   law : walk.IsLaw c a (Fitting c) At Asked Ended
-  law = record { calls = λ p noted kept l known h. (lanes.law m c a one).calls p noted kept l known h.0; entries = entries; passes = passes; ends = λ noted kept l done h. h.1 }
+  law = record { calls = λ p noted kept l known h. (lanes.law m c a one).calls p noted kept l known h.0; entries = entries; silent = silent; ends = λ noted kept l done h. h.1 }
 
   first_flag : (n : ℕ) → is_set (false ∷ false ∷ []) n ≡ false
   first_flag zero = refl

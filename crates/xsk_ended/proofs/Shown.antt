@@ -13,7 +13,7 @@ use Rattle.xsk_laws.specs.Laws.{AreEndedRunsBy}
 use Rattle.xsk_laws.proofs.Joined.{input_is}
 use Rattle.xsk_machine.specs.Acts.{sent_of}
 use Rattle.xsk_turns.specs.Hands.{IsWholeRunOf}
-use Rattle.xsk_turns.specs.Sending.{bouncing}
+use Rattle.xsk_turns.specs.SentWith.{bouncing}
 use Rattle.xsk_turns.specs.Turns.{Judged}
 use Rattle.xsk_turns.specs.Workers.{Setting}
 use Rattle.xsk_turns.specs.declared.wire.Wire.TheVariants.{Wait}

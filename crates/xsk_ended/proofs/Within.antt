@@ -14,7 +14,7 @@ use Rattle.xsk_model.specs.Steering.{paired_port, driver_on}
 use Rattle.xsk_laws.specs.Expected.{received}
 use Rattle.xsk_laws.specs.Laws.{AreEndedRunsBy}
 use Rattle.xsk_turns.specs.Hands.{IsWholeRunOf}
-use Rattle.xsk_turns.specs.Sending.{bouncing}
+use Rattle.xsk_turns.specs.SentWith.{bouncing}
 use Rattle.xsk_turns.specs.Verdicts.{judged}
 use Rattle.xsk_turns.specs.Workers.{Setting, IsWholeRun}
 use Rattle.xsk_machine.proofs.Acts.{IsWithin}

@@ -10,7 +10,7 @@ use crate::tally::Tally;
 use crate::text::{push_dry, push_tally};
 use std::alloc::Global;
 use std::marker::Model;
-use xsk_judge::{Judge, Place};
+use xsk_judge::{Judge, Whereabouts};
 use xsk_model::Ring;
 use xsk_side::{Call, Setting};
 use xsk_umem::{OutOfMemory, XdpDesc};
@@ -189,12 +189,12 @@ fn source(setting: &Setting, judge: &Judge, entry: XdpDesc) -> Option<Ring>
     given(judge.known(setting, frame).place)
 }
 
-fn given(place: Place) -> Option<Ring>
+fn given(place: Whereabouts) -> Option<Ring>
     ensures { result ≡ given_by place }
 {
     match place {
-        Place::Given(ring) => Some(ring),
-        Place::Start | Place::Peeked(_, _) | Place::Again(_) => None,
+        Whereabouts::Given(ring) => Some(ring),
+        Whereabouts::Start | Whereabouts::Peeked(_, _) | Whereabouts::Again(_) => None,
     }
 }
 

@@ -6,7 +6,7 @@ use Rattle.xsk_model.specs.declared.call.Ring.TheVariants.{Fill, Comp, Rx, Tx}
 use Rattle.xsk_side.specs.Setting.{Setting, IsSetting, HasRing, size_of}
 use Rattle.xsk_side.specs.Object.{is_made}
 use Rattle.xsk_judge.specs.declared.known.End.{End}
-use Rattle.xsk_judge.specs.declared.known.Place.TheVariants.{Start}
+use Rattle.xsk_judge.specs.declared.known.Whereabouts.TheVariants.{Start}
 use Rattle.xsk_judge.specs.Kept.{Queue, Kept, known_in, end_at, queue_at}
 use Rattle.xsk_judge.specs.First.{fill_end, tx_end, comp_queue, rx_queue}
 use Rattle.xsk_judge.specs.Stands.{IsKnown, IsQueue, IsReady, StandsFor}

@@ -15,7 +15,7 @@ use Rattle.xsk_side.specs.declared.call.Answer.{Answer}
 use Rattle.xsk_side.specs.declared.call.Answer.TheVariants.{Granted, Full, Refused}
 use Rattle.xsk_side.specs.declared.call.Call.{Call}
 use Rattle.xsk_side.specs.declared.call.Call.TheVariants.{Reserve, Free, Submit, Peek, Release, Cancel}
-use Rattle.xsk_judge.specs.declared.known.Place.TheVariants.{Peeked, Given, Again}
+use Rattle.xsk_judge.specs.declared.known.Whereabouts.TheVariants.{Peeked, Given, Again}
 use Rattle.xsk_judge.specs.declared.known.Known.{Known}
 use Rattle.xsk_judge.specs.declared.known.End.{End}
 use Rattle.xsk_judge.specs.Kept.{Queue, Kept, is_mine, given_by, is_as, numbered, known_in, place, end_at, queue_at, strays_at, standing, with_end, with_queue}

@@ -6,8 +6,8 @@ use Rattle.xsk_model.specs.declared.call.Ring.{Ring}
 use Rattle.xsk_model.specs.declared.call.Ring.TheVariants.{Fill, Comp, Rx, Tx}
 use Rattle.xsk_model.specs.Rings.{is_ring}
 use Rattle.xsk_side.specs.Setting.{Setting}
-use Rattle.xsk_judge.specs.declared.known.Place.{Place}
-use Rattle.xsk_judge.specs.declared.known.Place.TheVariants.{Start, Peeked, Given, Again}
+use Rattle.xsk_judge.specs.declared.known.Whereabouts.{Whereabouts}
+use Rattle.xsk_judge.specs.declared.known.Whereabouts.TheVariants.{Start, Peeked, Given, Again}
 use Rattle.xsk_judge.specs.declared.known.Spot.{Spot}
 use Rattle.xsk_judge.specs.declared.known.Spot.TheVariants.{First, Shown, On, Back}
 use Rattle.xsk_judge.specs.declared.known.Known.{Known}
@@ -31,21 +31,21 @@ pub record Kept : Type 0 where
 
 -- ---- places
 
-abbrev pub is_mine : Place → Bool
+abbrev pub is_mine : Whereabouts → Bool
 is_mine Start = true
 is_mine (Peeked r i) = true
 is_mine (Given r) = false
 is_mine (Again r) = false
 
 -- the ring on which a frame was submitted, if it is there
-abbrev pub given_by : Place → Option Ring
+abbrev pub given_by : Whereabouts → Option Ring
 given_by Start = None
 given_by (Peeked r i) = None
 given_by (Given r) = Some r
 given_by (Again r) = None
 
 -- the place without the entry's number
-abbrev pub spot_by : Place → Spot
+abbrev pub spot_by : Whereabouts → Spot
 spot_by Start = First
 spot_by (Peeked r i) = Shown r
 spot_by (Given r) = On r
@@ -59,7 +59,7 @@ is_spot (Back r) (Back q) = is_ring r q
 is_spot _ _ = false
 
 -- whether the program has the frame as this entry
-abbrev pub is_as : Ring → ℕ → Place → Bool
+abbrev pub is_as : Ring → ℕ → Whereabouts → Bool
 is_as r i Start = false
 is_as r i (Peeked q j) = is_ring r q && i == j
 is_as r i (Given q) = false

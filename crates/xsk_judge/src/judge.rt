@@ -11,10 +11,10 @@ ghost use Rattle.xsk_judge.specs.Judging.{IsFor, MayCall, MayAnswer, Agrees, Can
 ghost use Rattle.xsk_judge.specs.Reasons.{AnswersNot, FreesNot, IsReasonOf, ShowsNot, entry_at};
 ghost use Rattle.xsk_judge.specs.Refusing.{IsReason, NoPlace, Stops};
 
-use crate::known::{End, Known, Place};
+use crate::known::{End, Known, Whereabouts};
 use crate::queue::Queue;
 use crate::why::{Denial, Rule, Why};
-use crate::{first, marks};
+use crate::{first, following};
 use std::alloc::Global;
 use std::marker::Model;
 use xsk_model::Ring;
@@ -49,7 +49,7 @@ impl Judge {
         ensures stands { IfOk result (λ judge. StandsFor setting.now judge []) }
     {
         let start = Known {
-            place: Place::Start,
+            place: Whereabouts::Start,
             since: 0,
         };
         let frames = vec![in alloc; start; setting.frames() as usize]?;
@@ -236,7 +236,13 @@ impl Judge {
         if entries.len() > end.room as usize {
             return Err(Why::Rule(Rule::Places(end.room)));
         }
-        if let Err(rule) = marks::give(self.frames.as_mut_slice(), setting, line, ring, entries) {
+        if let Err(rule) = following::give(
+            self.frames.as_mut_slice(),
+            setting,
+            line,
+            ring,
+            entries,
+        ) {
             return Err(Why::Rule(rule));
         }
         self.ends[at] = End {
@@ -246,7 +252,7 @@ impl Judge {
         };
         if let Ring::Tx(_) = ring {
             let pair = setting.pair(ring) as usize;
-            match self.strays[pair].checked_add(marks::count_strays(setting, entries)) {
+            match self.strays[pair].checked_add(following::count_strays(setting, entries)) {
                 Some(strays) => self.strays[pair] = strays,
                 None => return Err(Why::TooMany),
             }
@@ -303,7 +309,7 @@ impl Judge {
     {
         let first = self.queues[at].first();
         let held = self.queues[at].held();
-        marks::show(
+        following::show(
             self.frames.as_mut_slice(),
             setting,
             line,
@@ -337,12 +343,12 @@ impl Judge {
     {
         let frames = self.frames.as_mut_slice();
         match ring {
-            Ring::Rx(socket) => marks::receive(
+            Ring::Rx(socket) => following::receive(
                 frames, setting, line, socket, first, at, skipped, entries,
             ),
             Ring::Comp(pair) => {
                 let strays = self.strays[pair as usize];
-                match marks::complete(
+                match following::complete(
                     frames, setting, line, pair, first, at, skipped, strays, entries,
                 ) {
                     Ok(left) => self.strays[pair as usize] = left,
@@ -387,7 +393,7 @@ impl Judge {
         if count > held {
             return Err(Why::Rule(Rule::Cancel(held)));
         }
-        if let Err(rule) = marks::are_latest(
+        if let Err(rule) = following::are_latest(
             self.frames.as_slice(),
             setting,
             ring,
@@ -396,7 +402,7 @@ impl Judge {
         ) {
             return Err(Why::Rule(rule));
         }
-        marks::put_back(
+        following::put_back(
             self.frames.as_mut_slice(),
             setting,
             line,

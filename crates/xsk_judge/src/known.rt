@@ -7,7 +7,7 @@ use xsk_model::Ring;
 
 /// Where a frame is.
 #[derive(Clone, Copy, Debug, PartialEq, Eq)]
-pub enum Place {
+pub enum Whereabouts {
     /// The program has had it from the start.
     Start,
     /// The program has it, as this entry of RX or COMPLETION. Entries are numbered modulo 2^32.
@@ -46,16 +46,16 @@ impl Spot {
     }
 }
 
-impl Place {
+impl Whereabouts {
     /// The place without the entry's number.
     pub fn spot(self) -> Spot
         ensures { result ≡ spot_by self }
     {
         match self {
-            Place::Start => Spot::First,
-            Place::Peeked(ring, _) => Spot::Shown(ring),
-            Place::Given(ring) => Spot::On(ring),
-            Place::Again(ring) => Spot::Back(ring),
+            Whereabouts::Start => Spot::First,
+            Whereabouts::Peeked(ring, _) => Spot::Shown(ring),
+            Whereabouts::Given(ring) => Spot::On(ring),
+            Whereabouts::Again(ring) => Spot::Back(ring),
         }
     }
 
@@ -64,8 +64,8 @@ impl Place {
         ensures { result ≡ is_mine self }
     {
         match self {
-            Place::Start | Place::Peeked(_, _) => true,
-            Place::Given(_) | Place::Again(_) => false,
+            Whereabouts::Start | Whereabouts::Peeked(_, _) => true,
+            Whereabouts::Given(_) | Whereabouts::Again(_) => false,
         }
     }
 
@@ -74,8 +74,8 @@ impl Place {
         ensures { result ≡ is_as ring number self }
     {
         match self {
-            Place::Peeked(by, at) => is_same(ring, by) && number == at,
-            Place::Start | Place::Given(_) | Place::Again(_) => false,
+            Whereabouts::Peeked(by, at) => is_same(ring, by) && number == at,
+            Whereabouts::Start | Whereabouts::Given(_) | Whereabouts::Again(_) => false,
         }
     }
 }
@@ -83,7 +83,7 @@ impl Place {
 /// Where a frame is, and since which line; 0 is the start.
 #[derive(Clone, Copy, Debug, PartialEq, Eq)]
 pub struct Known {
-    pub place: Place,
+    pub place: Whereabouts,
     pub since: u64,
 }
 

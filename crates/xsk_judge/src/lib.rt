@@ -2,12 +2,12 @@
 #![tactic(auto)]
 
 mod first;
+mod following;
 mod judge;
 mod known;
-mod marks;
 mod queue;
 mod why;
 
 pub use judge::Judge;
-pub use known::{Known, Place, Spot};
+pub use known::{Known, Spot, Whereabouts};
 pub use why::{Denial, Rule, Why};

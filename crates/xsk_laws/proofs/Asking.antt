@@ -12,9 +12,9 @@ use Rattle.xsk_turns.proofs.Layouts.{length-laid_out}
 use Rattle.xsk_turns.proofs.Object.{Config, Fits}
 use Rattle.xsk_turns.proofs.Rooms.{all_whole}
 use Rattle.xsk_turns.proofs.Walks.{Premise, Due, nothing_due, submit_due, release_due}
-use Rattle.xsk_turns.proofs.DriverPlaces.{Trying, Lacking, Turning, Again, Family, HasTaken, IsNext, PeekFill, ReleaseFill, ReserveRx, SubmitRx, call_at, told_bounced, looked_none, looked_long, looked_some, fill_empty, fill_items, fill_released, rx_granted, rx_full, rx_submitted, point_of, reply_of, untried, too_few, waits, drops_full, drops_frameless, Said, AtCalls, AtEntries, AtPasses, IsLaw}
+use Rattle.xsk_turns.proofs.DriverStages.{Trying, Lacking, Turning, Again, Family, HasTaken, IsNext, PeekFill, ReleaseFill, ReserveRx, SubmitRx, call_at, told_bounced, looked_none, looked_long, looked_some, fill_empty, fill_items, fill_released, rx_granted, rx_full, rx_submitted, point_of, reply_of, untried, too_few, waits, drops_full, drops_frameless, Said, AtCalls, AtEntries, AtSilent, IsLaw}
 use Rattle.xsk_turns.specs.Disposals.{Disposed, passed, attempts_of, disposals_of, goes_on}
-use Rattle.xsk_turns.specs.Disposes.{HasDisposed, finished_with}
+use Rattle.xsk_turns.specs.KeptDisposals.{HasDisposed, finished_with}
 use Rattle.xsk_turns.specs.Turns.{Seat, Judged, Kept, seat_of, start, settled, supplied, redirect_to, pieces_of, laid_out, whole_frames, cell_of}
 use Rattle.xsk_turns.specs.declared.disposal.Disposal.{Disposal}
 use Rattle.xsk_turns.specs.declared.disposal.Disposal.TheVariants.{Delivered, NoFrames, RxFull, TooLong, Missed, Bounced}
@@ -287,13 +287,13 @@ module _ (wire : Wire) (c : Config) (pair : ℕ) (input : List Judged) where
   entries (rx_submitted packet s) noted kept l known found h a q = delivers packet s kept l known.1 h.0
   entries e noted kept l known found h a q = on kept (call_at seat (point_of e) kept) (reply_of e) l refl h
 
-  passes : AtPasses seat Meets At
-  passes (untried packet later d) noted kept l = λ h e. settles kept d l (untried_unlost seat packet d e.1) h
-  passes (too_few packet s) noted kept l = λ h e. (h.0, lacks_still packet s kept l e.2 e.3 h.1)
-  passes (waits packet s full) noted kept l = λ h e. h.0
-  passes (drops_full packet s) noted kept l = λ h e. loses kept RxFull l h.1 h.0
-  passes (drops_frameless packet s) noted kept l = λ h e. loses kept NoFrames l h.1 h.0
-  passes p noted kept l = λ h e. h
+  silent : AtSilent seat Meets At
+  silent (untried packet later d) noted kept l = λ h e. settles kept d l (untried_unlost seat packet d e.1) h
+  silent (too_few packet s) noted kept l = λ h e. (h.0, lacks_still packet s kept l e.2 e.3 h.1)
+  silent (waits packet s full) noted kept l = λ h e. h.0
+  silent (drops_full packet s) noted kept l = λ h e. loses kept RxFull l h.1 h.0
+  silent (drops_frameless packet s) noted kept l = λ h e. loses kept NoFrames l h.1 h.0
+  silent p noted kept l = λ h e. h
 
   pub law : IsLaw seat Meets At Asked Ended
-  law = record { calls = calls; entries = entries; passes = passes; ends = λ noted kept l n known h a q. (on kept (Swap (Gone pair) 1) (Old n) l refl h).reasoned }
+  law = record { calls = calls; entries = entries; silent = silent; ends = λ noted kept l n known h a q. (on kept (Swap (Gone pair) 1) (Old n) l refl h).reasoned }

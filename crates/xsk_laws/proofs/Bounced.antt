@@ -20,7 +20,7 @@ use Rattle.xsk_turns.specs.Disposals.{disposal_in}
 use Rattle.xsk_turns.specs.declared.disposal.Disposal.{Disposal}
 use Rattle.xsk_turns.specs.declared.disposal.Disposal.TheVariants.{Delivered, NoFrames, RxFull, TooLong, Runt, Missed, Passed, Dropped, Bounced as BouncedOff}
 use Rattle.xsk_turns.proofs.Saying.{in-bounced}
-use Rattle.xsk_turns.specs.Sending.{bounces_at, bouncing}
+use Rattle.xsk_turns.specs.SentWith.{bounces_at, bouncing}
 use Rattle.xsk_turns.specs.Verdicts.{judged, EachHas, IsGiven}
 use Rattle.xsk_laws.specs.Expected.{may_bounce, none_bounces}
 use Rattle.xsk_laws.specs.Lost.{is_lost}

@@ -117,7 +117,7 @@ module _ (c : Config) (a : ℕ) (one : IsApp c a) (shut : Shut) (is : IsShut c a
   Over kept = (kept.tx_done ≡ true) × (kept.begun ≡ true)
 
   -- where it has found the ring empty
-  abbrev Needs : walk.Place → AppNoted → AppKept → Type 0
+  abbrev Needs : walk.Stage → AppNoted → AppKept → Type 0
   Needs (walk.Lanes k) noted kept = (lane0 < k) × (noted.acked ≡ true) × (noted.lanes_empty ≡ true) × (kept.tx_done ≡ false)
   Needs (walk.Lane k due) noted kept = noted.lanes_empty ≡ true
   Needs (walk.Draining k due) noted kept = noted.lanes_empty ≡ true
@@ -126,7 +126,7 @@ module _ (c : Config) (a : ℕ) (one : IsApp c a) (shut : Shut) (is : IsShut c a
   Needs walk.Ending noted kept = (noted.acked ≡ true) × (noted.lanes_empty ≡ true) × (kept.tx_done ≡ false)
   Needs place noted kept = ⊥
 
-  abbrev held_at : walk.Place → ℕ
+  abbrev held_at : walk.Stage → ℕ
   held_at (walk.Lane k (release_due (Rx s) n)) = cond (eqb x s) n 0
   held_at (walk.Draining k (release_due (Rx s) n)) = cond (eqb x s) n 0
   held_at place = 0
@@ -221,7 +221,7 @@ module _ (c : Config) (a : ℕ) (one : IsApp c a) (shut : Shut) (is : IsShut c a
       before j k h e = omega arith
 
   -- what holds at a place stays so, as flags are looked at and drivers woken
-  on_look : (place : walk.Place) (noted : AppNoted) (kept : AppKept) (l : List Told) (m : Mark) (n : ℕ) → is_mark (Acked x) m ≡ false → At place noted kept l → At place noted kept (with_told l (Look m) (Old n))
+  on_look : (place : walk.Stage) (noted : AppNoted) (kept : AppKept) (l : List Told) (m : Mark) (n : ℕ) → is_mark (Acked x) m ≡ false → At place noted kept l → At place noted kept (with_told l (Look m) (Old n))
   on_look (walk.Waking place need pair) noted kept l m n off h = (on_look place noted kept l m n off h.0, h.1)
   on_look (walk.Looked place need pair k) noted kept l m n off h = (on_look place noted kept l m n off h.0, h.1)
   on_look (walk.Kicking place pair) noted kept l m n off h = (on_look place noted kept l m n off h.0, h.1)
@@ -236,7 +236,7 @@ module _ (c : Config) (a : ℕ) (one : IsApp c a) (shut : Shut) (is : IsShut c a
   on_look (walk.Shutting s) noted kept l m n off h = (looked kept.acked _ _ _ l m n off (λ f. f) h.0, h.1)
   on_look (walk.Draining k due) noted kept l m n off h = (looked kept.acked _ _ _ l m n off (λ f. f) h.0, h.1)
 
-  on_swap : (place : walk.Place) (noted : AppNoted) (kept : AppKept) (l : List Told) (m : Mark) (value n : ℕ) → At place noted kept l → At place noted kept (with_told l (Swap m value) (Old n))
+  on_swap : (place : walk.Stage) (noted : AppNoted) (kept : AppKept) (l : List Told) (m : Mark) (value n : ℕ) → At place noted kept l → At place noted kept (with_told l (Swap m value) (Old n))
   on_swap (walk.Waking place need pair) noted kept l m v n h = (on_swap place noted kept l m v n h.0, h.1)
   on_swap (walk.Looked place need pair k) noted kept l m v n h = (on_swap place noted kept l m v n h.0, h.1)
   on_swap (walk.Kicking place pair) noted kept l m v n h = (on_swap place noted kept l m v n h.0, h.1)
@@ -319,24 +319,24 @@ module _ (c : Config) (a : ℕ) (one : IsApp c a) (shut : Shut) (is : IsShut c a
   entries e noted kept l known h asked q =
       (still kept.acked _ _ 0 l (walk.call_at c a (walk.point_of e) kept) (walk.reply_of e) (λ s. refl) refl refl (λ f. f) h.0, h.1)
 
-  passes : walk.AtPasses c a At
-  passes walk.no_lanes noted kept l = λ h e. (fewer kept.acked _ _ 0 l (λ f. ⊎_elim (λ (k : Needs (walk.Sides 0) noted kept). not_both kept.tx_done k.2 e) (λ o. inr o) f) h.0, h.1)
-  passes (walk.has_items lane item items) noted kept l = λ h e. (fewer kept.acked _ _ 0 l (λ f. ⊎_elim (λ k. no_false k) (λ o. inr o) f) h.0, h.1)
-  passes walk.lanes_done noted kept l = λ h e. (fewer kept.acked _ _ 0 l (λ f. ⊎_elim (λ (k : Needs (walk.Sides 0) noted kept). inl (from_below c a one shut is, k.0, k.1, k.2)) (λ o. inr o) f) h.0, h.1)
-  passes walk.looks noted kept l = λ h e. (fewer kept.acked _ _ 0 l (λ f. ⊎_elim (λ k. absurd k) (λ o. inr o) f) h.0, h.1)
-  passes walk.rests noted kept l = λ h e. (fewer kept.acked _ _ 0 l (λ f. ⊎_elim (λ k. absurd k) (λ o. inr o) f) h.0, h.1)
-  passes walk.begins noted kept l = λ h e. (fewer kept.acked _ _ 0 l (λ f. ⊎_elim (λ (k : Needs (walk.Lanes 0) (noted_first kept) kept). absurd (omega (arith, k.0))) (λ o. inr o) f) h.0, λ f. f)
-  passes (walk.without_need place need pair) noted kept l = λ h off. h.0
-  passes (walk.needs_none place need pair n) noted kept l = λ h off. h.0
-  passes (walk.needs_kick place need pair n) noted kept l = λ h off. h
-  passes walk.told_both noted kept l = λ h on. ((h, refl), refl)
-  passes (walk.closes s) noted kept l = λ h e. (fewer kept.acked _ _ 0 l (λ f. ⊎_elim (λ k. absurd k) (λ o. inr o) f) h.0, h.1)
-  passes (walk.closed_quietly s) noted kept l = λ h off. (fewer kept.acked _ _ 0 l (λ f. ⊎_elim (λ (k : Needs (walk.Lanes 0) noted kept). absurd (omega (arith, k.0))) (λ o. inr o) f) h.0, h.1)
-  passes (walk.closed_kicks s) noted kept l = λ h on. ((fewer kept.acked _ _ 0 l (λ f. ⊎_elim (λ (k : Needs (walk.Lanes 0) noted kept). absurd (omega (arith, k.0))) (λ o. inr o) f) h.0, h.1), refl)
-  passes p noted kept l = λ h e. h
+  silent : walk.AtSilent c a At
+  silent walk.no_lanes noted kept l = λ h e. (fewer kept.acked _ _ 0 l (λ f. ⊎_elim (λ (k : Needs (walk.Sides 0) noted kept). not_both kept.tx_done k.2 e) (λ o. inr o) f) h.0, h.1)
+  silent (walk.has_items lane item items) noted kept l = λ h e. (fewer kept.acked _ _ 0 l (λ f. ⊎_elim (λ k. no_false k) (λ o. inr o) f) h.0, h.1)
+  silent walk.lanes_done noted kept l = λ h e. (fewer kept.acked _ _ 0 l (λ f. ⊎_elim (λ (k : Needs (walk.Sides 0) noted kept). inl (from_below c a one shut is, k.0, k.1, k.2)) (λ o. inr o) f) h.0, h.1)
+  silent walk.looks noted kept l = λ h e. (fewer kept.acked _ _ 0 l (λ f. ⊎_elim (λ k. absurd k) (λ o. inr o) f) h.0, h.1)
+  silent walk.rests noted kept l = λ h e. (fewer kept.acked _ _ 0 l (λ f. ⊎_elim (λ k. absurd k) (λ o. inr o) f) h.0, h.1)
+  silent walk.begins noted kept l = λ h e. (fewer kept.acked _ _ 0 l (λ f. ⊎_elim (λ (k : Needs (walk.Lanes 0) (noted_first kept) kept). absurd (omega (arith, k.0))) (λ o. inr o) f) h.0, λ f. f)
+  silent (walk.without_need place need pair) noted kept l = λ h off. h.0
+  silent (walk.needs_none place need pair n) noted kept l = λ h off. h.0
+  silent (walk.needs_kick place need pair n) noted kept l = λ h off. h
+  silent walk.told_both noted kept l = λ h on. ((h, refl), refl)
+  silent (walk.closes s) noted kept l = λ h e. (fewer kept.acked _ _ 0 l (λ f. ⊎_elim (λ k. absurd k) (λ o. inr o) f) h.0, h.1)
+  silent (walk.closed_quietly s) noted kept l = λ h off. (fewer kept.acked _ _ 0 l (λ f. ⊎_elim (λ (k : Needs (walk.Lanes 0) noted kept). absurd (omega (arith, k.0))) (λ o. inr o) f) h.0, h.1)
+  silent (walk.closed_kicks s) noted kept l = λ h on. ((fewer kept.acked _ _ 0 l (λ f. ⊎_elim (λ (k : Needs (walk.Lanes 0) noted kept). absurd (omega (arith, k.0))) (λ o. inr o) f) h.0, h.1), refl)
+  silent p noted kept l = λ h e. h
 
   law : walk.IsLaw c a Anything At Asked Ended
-  law = record { calls = λ p noted kept l known h. tt; entries = entries; passes = passes; ends = λ noted kept l done h begun. (h.0.empty (inr (done.0, begun)), h.0.held) }
+  law = record { calls = λ p noted kept l known h. tt; entries = entries; silent = silent; ends = λ noted kept l done h begun. (h.0.empty (inr (done.0, begun)), h.0.held) }
 
 -- at its end an application that has closed the socket has found it so
 pub finds_at_end : (m : Manner) (c : Config) (a : ℕ) (one : IsApp c a) (shut : Shut) (l : List Told) (run : IsWholeAppRunBy m c a l) → IsShut c a shut → run.0.begun ≡ true

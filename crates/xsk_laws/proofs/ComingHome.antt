@@ -143,7 +143,7 @@ module _ (c : Config) (a : ℕ) (one : IsApp c a) (shut : Shut) (is : IsShut c a
 
 module _ (c : Config) (a : ℕ) (one : IsApp c a) where
   -- the socket whose cells are lowered there
-  abbrev lowering : walk.Place → Option Shut
+  abbrev lowering : walk.Stage → Option Shut
   lowering (walk.Lowering shut index) = Some shut
   lowering (walk.Waking place need pair) = lowering place
   lowering (walk.Looked place need pair n) = lowering place
@@ -212,15 +212,15 @@ module _ (c : Config) (a : ℕ) (one : IsApp c a) where
   entries (walk.told_closing shut n) noted kept l known h asked q = (splits_push c l (Swap (Closing shut.socket) 1) (Old n) h.0 asked, idle_begun shut kept known.0 h.2, tt)
   entries e noted kept l known h asked q = (splits_push c l (walk.call_at c a (walk.point_of e) kept) (walk.reply_of e) h.0 asked, h.1, tt)
 
-  passes : walk.AtPasses c a At
-  passes (walk.closes shut) noted kept l = λ h e. (h.0, h.1, idle_first shut kept e.1)
-  passes p noted kept l = λ h e. h
+  silent : walk.AtSilent c a At
+  silent (walk.closes shut) noted kept l = λ h e. (h.0, h.1, idle_first shut kept e.1)
+  silent p noted kept l = λ h e. h
 
   law : walk.IsLaw c a Anything At Asked Ended
   law = record {
     calls = calls;
     entries = entries;
-    passes = passes;
+    silent = silent;
     ends = λ noted kept l done h.
         let over = and_parts _ _ done.1 in
         let first = and_parts _ _ over.0 in
@@ -234,7 +234,7 @@ module _ (c : Config) (a : ℕ) (one : IsApp c a) where
   module _ (m : Manner) where
     opened : walk.IsLaw c a Anything (lanes.At m c a one) (lanes.Asked m c a one) Opened
     opened =
-        let on = lanes.law m c a one in record { calls = on.calls; entries = on.entries; passes = on.passes; ends = λ noted kept l done h j below off. (h.over done.0 j below).0 off }
+        let on = lanes.law m c a one in record { calls = on.calls; entries = on.entries; silent = on.silent; ends = λ noted kept l done h j below off. (h.over done.0 j below).0 off }
 
     -- ---- at the end
 

@@ -138,7 +138,7 @@ module _ (c : Config) (a : ℕ) (one : IsApp c a) (lane : ℕ) (below : lane < l
   aside : (kept : AppKept) (l : List Told) (call : Call) (reply : Reply) → IsAside call → Follows kept l → Follows kept (with_told l call reply)
   aside kept l call reply e h = follows kept l (with_told l call reply) (same l call reply e) h
 
-  stays : (place : walk.Place) (noted : AppNoted) (kept : AppKept) (l m : List Told) → state m ≡ state l → At place noted kept l → At place noted kept m
+  stays : (place : walk.Stage) (noted : AppNoted) (kept : AppKept) (l m : List Told) → state m ≡ state l → At place noted kept l → At place noted kept m
   stays (walk.Lanes j) noted kept l m e h = follows kept l m e h
   stays (walk.Lane j due) noted kept l m e h = follows kept l m e h
   stays (walk.Sides side) noted kept l m e h = follows kept l m e h
@@ -211,14 +211,14 @@ module _ (c : Config) (a : ℕ) (one : IsApp c a) (lane : ℕ) (below : lane < l
   entries e noted kept l known h asked q =
       aside kept l (walk.call_at c a (walk.point_of e) kept) (walk.reply_of e) (λ u. refl) h
 
-  passes : walk.AtPasses c a At
-  passes (walk.closes shut) noted kept l = λ h e. h.0
-  passes (walk.closed_quietly shut) noted kept l = λ h e. (h.0, λ f. h.1)
-  passes (walk.closed_kicks shut) noted kept l = λ h e. (h.0, λ f. h.1)
-  passes p noted kept l = λ h e. h
+  silent : walk.AtSilent c a At
+  silent (walk.closes shut) noted kept l = λ h e. h.0
+  silent (walk.closed_quietly shut) noted kept l = λ h e. (h.0, λ f. h.1)
+  silent (walk.closed_kicks shut) noted kept l = λ h e. (h.0, λ f. h.1)
+  silent p noted kept l = λ h e. h
 
   law : walk.IsLaw c a Anything At Asked Follows
-  law = record { calls = λ p noted kept l known h. tt; entries = entries; passes = passes; ends = λ noted kept l done h. h }
+  law = record { calls = λ p noted kept l known h. tt; entries = entries; silent = silent; ends = λ noted kept l done h. h }
 
   module _ (m : Manner) (l : List Told) (whole : IsWholeAppRunBy m c a l) where
     pub lowered_late : Follows whole.0 l

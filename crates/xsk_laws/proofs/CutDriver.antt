@@ -20,7 +20,7 @@ use Rattle.xsk_turns.proofs.Saying.{in-untried, in-bounced, in-cell}
 use Rattle.xsk_turns.proofs.Delivering.{IsGiven, bytes_if}
 use Rattle.xsk_turns.proofs.Delivering as delivering
 use Rattle.xsk_turns.proofs.Walks.{Premise, MeetAlong, Fitting}
-use Rattle.xsk_turns.proofs.DriverPlaces.{Family, Point, Known, TellRxDone, PeekFill, ReleaseFill, ReserveRx, SubmitRx, asked, call_at, kept_at, IsNext, IsTried, told_bounced, looked_none, looked_long, rx_submitted, point_of, untried, too_few, waits, drops_full, drops_frameless, seeks, Said, AtEntries, AtPasses, IsLaw, together}
+use Rattle.xsk_turns.proofs.DriverStages.{Family, Point, Known, TellRxDone, PeekFill, ReleaseFill, ReserveRx, SubmitRx, asked, call_at, kept_at, IsNext, IsTried, told_bounced, looked_none, looked_long, rx_submitted, point_of, untried, too_few, waits, drops_full, drops_frameless, seeks, Said, AtEntries, AtSilent, IsLaw, together}
 use Rattle.xsk_turns.proofs.DriverWalk.{at_end, of_run}
 
 -- ---- a law stands under a stronger premise
@@ -43,19 +43,19 @@ module _ (seat : Seat) (P Q : Premise Kept) (weaker : (kept : Kept) (l : List To
   known_weaker p noted kept h = h
 
   module _ (At : Family) (A : Said) (E : Kept → List Told → Type 0) (is : IsLaw seat P At A E) where
-    passes_weaker : AtPasses seat Q At
-    passes_weaker (too_few packet s) noted kept l = λ h e. is.passes (too_few packet s) noted kept l h (tried_weaker kept.coming packet s e.0, e.1, e.2, e.3)
-    passes_weaker (waits packet s full) noted kept l = λ h e. is.passes (waits packet s full) noted kept l h (tried_weaker kept.coming packet s e.0, e.1)
-    passes_weaker (drops_full packet s) noted kept l = λ h e. is.passes (drops_full packet s) noted kept l h (tried_weaker kept.coming packet s e.0, e.1)
-    passes_weaker (drops_frameless packet s) noted kept l = λ h e. is.passes (drops_frameless packet s) noted kept l h (tried_weaker kept.coming packet s e.0, e.1, e.2)
-    passes_weaker (seeks packet s) noted kept l = λ h e. is.passes (seeks packet s) noted kept l h (tried_weaker kept.coming packet s e.0, e.1)
-    passes_weaker p noted kept l = λ h e. is.passes p noted kept l h e
+    passes_weaker : AtSilent seat Q At
+    passes_weaker (too_few packet s) noted kept l = λ h e. is.silent (too_few packet s) noted kept l h (tried_weaker kept.coming packet s e.0, e.1, e.2, e.3)
+    passes_weaker (waits packet s full) noted kept l = λ h e. is.silent (waits packet s full) noted kept l h (tried_weaker kept.coming packet s e.0, e.1)
+    passes_weaker (drops_full packet s) noted kept l = λ h e. is.silent (drops_full packet s) noted kept l h (tried_weaker kept.coming packet s e.0, e.1)
+    passes_weaker (drops_frameless packet s) noted kept l = λ h e. is.silent (drops_frameless packet s) noted kept l h (tried_weaker kept.coming packet s e.0, e.1, e.2)
+    passes_weaker (seeks packet s) noted kept l = λ h e. is.silent (seeks packet s) noted kept l h (tried_weaker kept.coming packet s e.0, e.1)
+    passes_weaker p noted kept l = λ h e. is.silent p noted kept l h e
 
     law_weaker : IsLaw seat Q At A E
     law_weaker = record {
       calls = λ p noted kept l known h. is.calls p noted kept l (known_weaker p noted kept known) h;
       entries = λ e noted kept l known found h a q. is.entries e noted kept l (known_weaker (point_of e) noted kept known) found h a (weaker _ _ _ _ q);
-      passes = passes_weaker;
+      silent = passes_weaker;
       ends = λ noted kept l n known h a q. is.ends noted kept l n known h a (weaker _ _ _ _ q);
     }
 
@@ -162,11 +162,11 @@ module _ (wire : Wire) (c : Config) (d s : ℕ) (is : IsSeat c d) (input : List 
       (ap (λ b. is_to s (cond b TooLong (Delivered t))) (sym tried.fits) ∙ ap (λ r. is_to s (disposal_to seat packet.bytes r)) (sym tried.target) ∙ found_so kept.coming packet tried.next tried.number tried.looked.2.leads) h
   entries e noted kept l known found h a q = h
 
-  passes : AtPasses seat Shown At
-  passes (untried packet later x) noted kept l = λ h e. settles kept.disposals kept.coming later packet x e.0 (ap (is_to s) (sym (in-untried seat packet x e.1))) h
-  passes (drops_full packet t) noted kept l = λ h e. absurd (let no : false ≡ true = sym none_drop ∙ e.1 in cc)
-  passes (drops_frameless packet t) noted kept l = λ h e. absurd (let no : false ≡ true = sym none_drop ∙ e.1 in cc)
-  passes p noted kept l = λ h e. h
+  silent : AtSilent seat Shown At
+  silent (untried packet later x) noted kept l = λ h e. settles kept.disposals kept.coming later packet x e.0 (ap (is_to s) (sym (in-untried seat packet x e.1))) h
+  silent (drops_full packet t) noted kept l = λ h e. absurd (let no : false ≡ true = sym none_drop ∙ e.1 in cc)
+  silent (drops_frameless packet t) noted kept l = λ h e. absurd (let no : false ≡ true = sym none_drop ∙ e.1 in cc)
+  silent p noted kept l = λ h e. h
 
   -- with what was delivered
   abbrev Both : Family
@@ -181,7 +181,7 @@ module _ (wire : Wire) (c : Config) (d s : ℕ) (is : IsSeat c d) (input : List 
   law : IsLaw seat Shown Both BothAsked BothEnded
   law = together seat Shown (delivering.At wire c d s is input) At (delivering.Asked wire c d s is input) Asked (delivering.Ended wire c d s is input) Ended
       (law_weaker seat (Fitting c) Shown (λ kept l call reply h. h.fits) (delivering.At wire c d s is input) (delivering.Asked wire c d s is input) (delivering.Ended wire c d s is input) (delivering.law wire c d s is input))
-      calls entries passes (λ noted kept l n known h a q. h)
+      calls entries silent (λ noted kept l n known h a q. h)
 
   -- ---- what was delivered
 

@@ -14,7 +14,7 @@ use Rattle.xsk_umem.specs.Geometry.{Geometry}
 use Rattle.xsk_model.specs.Packets.{packets, packets_from, rest_from, whole_packets, bytes_of}
 use Rattle.xsk_model.proofs.PacketsLaws.{packets_from-append, whole_packets-append}
 use Rattle.xsk_model.specs.Entry.{Told, Entry, own}
-use Rattle.xsk_model.specs.Own.{peeked_of, submitted_of, sending_of}
+use Rattle.xsk_model.specs.Own.{peeked_of, submitted_of, tx_work_of}
 use Rattle.xsk_model.specs.Ends.{draining_of, telling_of}
 use Rattle.xsk_model.specs.Sent.{sent_by}
 use Rattle.xsk_model.specs.Steering.{packet_limit, paired_port, driver_on, socket_on}
@@ -34,7 +34,7 @@ use Rattle.xsk_turns.specs.declared.manner.Manner.{Manner}
 use Rattle.xsk_turns.specs.declared.wire.Wire.{Wire}
 use Rattle.xsk_turns.specs.declared.wire.Wire.TheVariants.{Wait}
 use Rattle.xsk_turns.proofs.Delivering.{with_disposal_is}
-use Rattle.xsk_turns.specs.Sending.{BouncesAll}
+use Rattle.xsk_turns.specs.SentWith.{BouncesAll}
 use Rattle.xsk_turns.specs.Law.{IsLaidOut, IsSized, DisposedAsSaid, DeliversInOrder, DeliversSized, NothingReceivedLate, DrainsTx, CompletesAll}
 use Rattle.xsk_turns.specs.AppOwned.{IsApp}
 use Rattle.xsk_turns.specs.AppTurns.{pair_of, rx_of, tx_of}
@@ -263,7 +263,7 @@ module _ (w : Workers) (hands : ℕ) (manner : Manner) (wire : Wire) (c : Config
   pub sent_wholes : sent_by c h d t ≡ map (bytes_of c.geometry c.sg) (whole_packets (packets c.geometry c.sg (peeked_of (Tx t) (own d h))))
   sent_wholes =
       let whole : List (List Item) = whole_packets (packets c.geometry c.sg (peeked_of (Tx t) (own d h))) in
-      let done : (sending_of c t (own d h)).completed ≡ length whole =
+      let done : (tx_work_of c t (own d h)).completed ≡ length whole =
       w.completes wire c d k (received_by c lists verdicts d) (own d h) seat_d (own_entries c frames h d run.history) (run.drivers d at_p.pair_known) place.in_classes in
       sent_in_order c frames h d t run.history
       ∙ ap (λ n. map (bytes_of c.geometry c.sg) (take n whole)) done

@@ -20,7 +20,7 @@ use Rattle.xsk_turns.specs.declared.wire.Wire.{Wire}
 use Rattle.xsk_turns.specs.declared.disposal.Disposal.{Disposal}
 use Rattle.xsk_turns.specs.declared.disposal.Disposal.TheVariants.{Delivered, NoFrames, RxFull, TooLong, Runt, Missed, Passed, Dropped, Bounced}
 use Rattle.xsk_turns.proofs.Walks.{Fitting, meet_fitting}
-use Rattle.xsk_turns.proofs.DriverPlaces.{Family, IsTried, told_rx_done, told_bounced, looked_none, looked_long, rx_submitted, looked_tx_done, found_end, untried, drops_full, drops_frameless, untried_has, AtEntries, AtPasses, IsLaw}
+use Rattle.xsk_turns.proofs.DriverStages.{Family, IsTried, told_rx_done, told_bounced, looked_none, looked_long, rx_submitted, looked_tx_done, found_end, untried, drops_full, drops_frameless, untried_has, AtEntries, AtSilent, IsLaw}
 use Rattle.xsk_turns.proofs.DriverWalk.{at_end}
 use Rattle.xsk_turns.proofs.Disposing.{IsOver, over_later, disposes_all}
 use Rattle.xsk_turns.proofs.Saying.{in-untried, in-bounced, to_none, to_some, to_tried}
@@ -110,11 +110,11 @@ module _ (wire : Wire) (c : Config) (pair : ℕ) (input : List Judged) (closes :
   entries (found_end n) noted kept l known found h a q = record { done = h.done; parts = h.parts; fair = h.fair; over = record { none = h.over.none; first = λ x. known.1 } }
   entries e noted kept l known found h a q = h
 
-  passes : AtPasses seat (Fitting c) At
-  passes (untried packet later d) noted kept l = λ h e. settles kept packet later d l e.0 (inl (in-untried seat packet d e.1)) h
-  passes (drops_full packet t) noted kept l = λ h e. loses kept packet t RxFull l e.0 refl h
-  passes (drops_frameless packet t) noted kept l = λ h e. let now = loses kept packet t NoFrames l e.0 refl h in record { done = now.done; parts = now.parts; fair = now.fair; over = now.over }
-  passes p noted kept l = λ h e. h
+  silent : AtSilent seat (Fitting c) At
+  silent (untried packet later d) noted kept l = λ h e. settles kept packet later d l e.0 (inl (in-untried seat packet d e.1)) h
+  silent (drops_full packet t) noted kept l = λ h e. loses kept packet t RxFull l e.0 refl h
+  silent (drops_frameless packet t) noted kept l = λ h e. let now = loses kept packet t NoFrames l e.0 refl h in record { done = now.done; parts = now.parts; fair = now.fair; over = now.over }
+  silent p noted kept l = λ h e. h
 
   all_fair : (kept : Kept) (l : List Told) → kept.coming ≡ [] → Fair kept l → AreFair c pair seat input kept.disposals
   all_fair kept l e h = subst (λ xs. AreFair c pair seat xs kept.disposals) (sym (append-nil h.done) ∙ ap (λ xs. h.done ++ xs) (sym e) ∙ h.parts) h.fair
@@ -123,7 +123,7 @@ module _ (wire : Wire) (c : Config) (pair : ℕ) (input : List Judged) (closes :
   law = record {
     calls = λ p noted kept l known h. tt;
     entries = entries;
-    passes = passes;
+    silent = silent;
     ends = λ noted kept l n known h a q. all_fair kept l (h.over.none (h.over.first known.2)) h;
   }
 

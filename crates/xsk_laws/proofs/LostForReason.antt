@@ -11,7 +11,7 @@ use Rattle.xsk_turns.proofs.ScriptLemmas.{leaves_told}
 use Rattle.xsk_turns.proofs.DriverWalk.{at_call, at_end}
 use Rattle.xsk_turns.proofs.Walks.{MeetAlong}
 use Rattle.xsk_turns.specs.Disposals.{Disposed}
-use Rattle.xsk_turns.specs.Disposes.{HasDisposed, finished_with}
+use Rattle.xsk_turns.specs.KeptDisposals.{HasDisposed, finished_with}
 use Rattle.xsk_turns.specs.Owned.{AllFit}
 use Rattle.xsk_turns.specs.Script.{Script, ask, again, ended, never, begun, Leaves}
 use Rattle.xsk_turns.specs.Turns.{Seat, Judged, Kept, seat_of, start, turn, IsWholeDriverRun}

@@ -4,7 +4,7 @@ use Rattle.xsk_model.specs.Entry.{Told}
 use Rattle.xsk_turns.specs.Turns.{Seat, Judged, disposal_untried, settled_or}
 use Rattle.xsk_turns.specs.Disposals.{Disposed, passed}
 use Rattle.xsk_turns.specs.declared.disposal.Disposal.{Disposal}
-use Rattle.xsk_turns.proofs.DriverPlaces.{untried_has}
+use Rattle.xsk_turns.proofs.DriverStages.{untried_has}
 use Rattle.xsk_laws.specs.Lost.{is_lost}
 use Rattle.xsk_laws.specs.Reasons.{look_at, WasLost, AreReasoned}
 

@@ -13,7 +13,7 @@ use Rattle.xsk_model.proofs.Seats.{IsAt, is_at}
 use Rattle.xsk_prog.specs.declared.rule.Verdict.{Verdict}
 use Rattle.xsk_turns.specs.Turns.{Judged, seat_of, IsWholeDriverRun}
 use Rattle.xsk_turns.specs.Disposals.{attempts_of, disposals_of, with_disposal}
-use Rattle.xsk_turns.specs.Sending.{bouncing}
+use Rattle.xsk_turns.specs.SentWith.{bouncing}
 use Rattle.xsk_turns.specs.declared.disposal.Disposal.{Disposal}
 use Rattle.xsk_turns.specs.declared.manner.Manner.{Manner}
 use Rattle.xsk_turns.specs.declared.wire.Wire.{Wire}

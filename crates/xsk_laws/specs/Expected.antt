@@ -12,7 +12,7 @@ use Rattle.xsk_prog.specs.declared.rule.Verdict.TheVariants.{Drop, Pass, Redirec
 use Rattle.xsk_turns.specs.Inputs.{packets_of_port, packets_of_queue}
 use Rattle.xsk_turns.specs.Turns.{Judged}
 use Rattle.xsk_turns.specs.Disposals.{bytes_in}
-use Rattle.xsk_turns.specs.Sending.{bouncing}
+use Rattle.xsk_turns.specs.SentWith.{bouncing}
 use Rattle.xsk_turns.specs.Verdicts.{judged}
 
 -- what a port receives on a queue

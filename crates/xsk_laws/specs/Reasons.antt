@@ -16,7 +16,7 @@ use Rattle.xsk_model.specs.declared.call.Reply.{Reply}
 use Rattle.xsk_model.specs.declared.call.Reply.TheVariants.{Full, Items, Old}
 use Rattle.xsk_prog.specs.declared.rule.Verdict.{Verdict}
 use Rattle.xsk_turns.specs.Disposals.{attempts_of, disposals_of, goes_on}
-use Rattle.xsk_turns.specs.Disposes.{finished_with}
+use Rattle.xsk_turns.specs.KeptDisposals.{finished_with}
 use Rattle.xsk_turns.specs.Owned.{AllFit}
 use Rattle.xsk_turns.specs.Script.{Script, Asks, Ends}
 use Rattle.xsk_turns.specs.Turns.{Seat, Judged, Kept, seat_of, start, turn, cell_of, redirect_to, pieces_of, frames_in}

@@ -11,10 +11,10 @@ use Rattle.xsk_model.specs.declared.call.Call.TheVariants.{Reserve, Submit, Peek
 use Rattle.xsk_model.specs.declared.call.Reply.TheVariants.{Granted, Items}
 use Rattle.xsk_legal.specs.Noted.{Noted}
 use Rattle.xsk_legal.specs.Standing.{Keeps, StandsFor, IsPlacing, IsFetching, places_at}
-use Rattle.xsk_legal.specs.Noting.{IsFor, CanGrant, CanRelease, CanFetch, CanPlace}
+use Rattle.xsk_legal.specs.ItemNotes.{IsFor, CanGrant, CanRelease, CanFetch, CanPlace}
 use Rattle.xsk_legal.proofs.Rooms.{granted_ring, granted_few, released_held}
-use Rattle.xsk_legal.proofs.Placed.{placed_ring, placed_room, placed_frame, placed_given}
-use Rattle.xsk_legal.proofs.Fetched.{fetched_ring, fetched_held, fetched_frame, fetched_room}
+use Rattle.xsk_legal.proofs.StandingPlaced.{placed_ring, placed_room, placed_frame, placed_given}
+use Rattle.xsk_legal.proofs.StandingFetched.{fetched_ring, fetched_held, fetched_frame, fetched_room}
 
 pub kept_for : (c : Config) (kept : Noted) (mine queued : List Told) (back : ℕ → ℕ) → Keeps c kept mine queued back → IsFor c kept
 kept_for c kept mine queued back h = record { rings = h.rings; frames = h.frames; sockets = h.sockets }

@@ -11,7 +11,7 @@ use Rattle.xsk_model.specs.Config.{Config, HasRing}
 use Rattle.xsk_model.specs.Packets.{rest, Continues, IsUnfinished, IsWhole}
 use Rattle.xsk_model.specs.Numbers.{times, number_of, numbers}
 use Rattle.xsk_model.specs.Entry.{Told}
-use Rattle.xsk_model.specs.Own.{Sending, waiting, sending_of}
+use Rattle.xsk_model.specs.Own.{TxWork, waiting, tx_work_of}
 use Rattle.xsk_model.specs.Legal.{IsItemOn, AreCompleted}
 use Rattle.xsk_model.specs.declared.call.Ring.{Ring}
 use Rattle.xsk_model.specs.declared.call.Ring.TheVariants.{Comp, Tx}
@@ -86,17 +86,17 @@ module _ (g : Geometry) (sg : Bool) where
 -- ---- what waits
 
 -- the descriptors that are kept, by the next packet
-descs_next : (c : Config) (u : Sending) (packet : List Item) (later : List (List Item)) → waiting c u ≡ packet ∷ later
+descs_next : (c : Config) (u : TxWork) (packet : List Item) (later : List (List Item)) → waiting c u ≡ packet ∷ later
     → map desc_of (uncompleted c u) ≡ map desc_of packet ++ map desc_of (joined later ++ rest c.geometry c.sg u.peeked)
 descs_next c u packet later e =
     ap (λ ws. map desc_of (joined ws ++ rest c.geometry c.sg u.peeked)) e
     ∙ ap (map desc_of) (append_assoc packet (joined later) (rest c.geometry c.sg u.peeked))
     ∙ map-append desc_of packet (joined later ++ rest c.geometry c.sg u.peeked)
 
-descs_none : (c : Config) (u : Sending) → waiting c u ≡ [] → map desc_of (uncompleted c u) ≡ map desc_of (rest c.geometry c.sg u.peeked)
+descs_none : (c : Config) (u : TxWork) → waiting c u ≡ [] → map desc_of (uncompleted c u) ≡ map desc_of (rest c.geometry c.sg u.peeked)
 descs_none c u e = ap (λ ws. map desc_of (joined ws ++ rest c.geometry c.sg u.peeked)) e
 
-pub all_next : (P : Item → Type 0) (c : Config) (u : Sending) (packet : List Item) (later : List (List Item)) → waiting c u ≡ packet ∷ later → All P (uncompleted c u) → All P packet
+pub all_next : (P : Item → Type 0) (c : Config) (u : TxWork) (packet : List Item) (later : List (List Item)) → waiting c u ≡ packet ∷ later → All P (uncompleted c u) → All P packet
 all_next P c u packet later e h =
     all_first P packet (joined later) (all_first P (packet ++ joined later) (rest c.geometry c.sg u.peeked) (subst (λ ws. All P (joined ws ++ rest c.geometry c.sg u.peeked)) e h))
 
@@ -107,19 +107,19 @@ source_by sources None n e = absurd (cc)
 source_by sources (Some f) n e = let same : f.number ≡ n = cc in ap (λ k. get_or sources k None) same
 
 module _ (c : Config) (kept : Noted) (mine : List Told) (d : ℕ) (items : List Item) (h : StandsFor c kept mine) (waits : IsWaiting c mine) where
-  descs_are : (s : ℕ) → HasRing c (Tx s) → (queue_at kept s).descs ≡ map desc_of (uncompleted c (sending_of c s mine))
+  descs_are : (s : ℕ) → HasRing c (Tx s) → (queue_at kept s).descs ≡ map desc_of (uncompleted c (tx_work_of c s mine))
   descs_are s tx = h.keeps.descs s tx
 
-  lawful_next : (s : ℕ) (packet : List Item) (later : List (List Item)) → waiting c (sending_of c s mine) ≡ packet ∷ later → All (IsItemOn c.geometry (Tx s)) packet
-  lawful_next s packet later e = all_next (IsItemOn c.geometry (Tx s)) c (sending_of c s mine) packet later e (all_uncompleted (IsItemOn c.geometry (Tx s)) c (sending_of c s mine) (waits.lawful s))
+  lawful_next : (s : ℕ) (packet : List Item) (later : List (List Item)) → waiting c (tx_work_of c s mine) ≡ packet ∷ later → All (IsItemOn c.geometry (Tx s)) packet
+  lawful_next s packet later e = all_next (IsItemOn c.geometry (Tx s)) c (tx_work_of c s mine) packet later e (all_uncompleted (IsItemOn c.geometry (Tx s)) c (tx_work_of c s mine) (waits.lawful s))
 
   -- ---- what is given back is completed
 
-  complete_next : (back : GivesBack c kept d items) (packet : List Item) (later : List (List Item)) → waiting c (sending_of c back.socket mine) ≡ packet ∷ later
+  complete_next : (back : GivesBack c kept d items) (packet : List Item) (later : List (List Item)) → waiting c (tx_work_of c back.socket mine) ≡ packet ∷ later
       → 1 ≤ length items → All (IsItemOn c.geometry (Comp d)) items → AreCompleted c mine (Comp d) items
   complete_next back packet later next some lawful =
       let s : ℕ = back.socket in
-      let u : Sending = sending_of c s mine in
+      let u : TxWork = tx_work_of c s mine in
       let w : IsWhole c.geometry c.sg packet = waiting_whole c u packet later next in
       let more : List XdpDesc = map desc_of (joined later ++ rest c.geometry c.sg u.peeked) in
       let first : IsPacket (map desc_of packet ++ more) items = subst (λ ds. IsPacket ds items) (descs_are s back.tx ∙ descs_next c u packet later next) back.packet in
@@ -138,25 +138,25 @@ module _ (c : Config) (kept : Noted) (mine : List Told) (d : ℕ) (items : List 
         addresses = same;
       }
 
-  by_next : (back : GivesBack c kept d items) (ws : List (List Item)) → waiting c (sending_of c back.socket mine) ≡ ws
+  by_next : (back : GivesBack c kept d items) (ws : List (List Item)) → waiting c (tx_work_of c back.socket mine) ≡ ws
       → 1 ≤ length items → All (IsItemOn c.geometry (Comp d)) items → AreCompleted c mine (Comp d) items
   by_next back [] next some lawful =
-      let u : Sending = sending_of c back.socket mine in
+      let u : TxWork = tx_work_of c back.socket mine in
       let unfinished : IsUnfinished c.geometry c.sg (rest c.geometry c.sg u.peeked) = (packets-made c.geometry c.sg u.peeked).1 in
       absurd (no_packet c.geometry c.sg (rest c.geometry c.sg u.peeked) items unfinished.continued some
       (subst (λ ds. IsPacket ds items) (descs_are back.socket back.tx ∙ descs_none c u next) back.packet))
   by_next back (packet ∷ later) next some lawful = complete_next back packet later next some lawful
 
   pub back_completed : 1 ≤ length items → All (IsItemOn c.geometry (Comp d)) items → GivesBack c kept d items → AreCompleted c mine (Comp d) items
-  back_completed some lawful back = by_next back (waiting c (sending_of c back.socket mine)) refl some lawful
+  back_completed some lawful back = by_next back (waiting c (tx_work_of c back.socket mine)) refl some lawful
 
   -- ---- what is completed is given back
 
   -- the frames of the next packet came from its ring
-  next_source : (s : ℕ) (p : Item) (ps : List Item) (later : List (List Item)) → waiting c (sending_of c s mine) ≡ (p ∷ ps) ∷ later
+  next_source : (s : ℕ) (p : Item) (ps : List Item) (later : List (List Item)) → waiting c (tx_work_of c s mine) ≡ (p ∷ ps) ∷ later
       → (f : Frame) → p.frame ≡ Some f → get_or kept.sources f.number None ≡ Some (Tx s)
   next_source s p ps later next f e =
-      let u : Sending = sending_of c s mine in
+      let u : TxWork = tx_work_of c s mine in
       let n : ℕ = f.number in
       let some : 1 ≤ times n (kept_frames c u) =
       omega (
@@ -172,7 +172,7 @@ module _ (c : Config) (kept : Noted) (mine : List Told) (d : ℕ) (items : List 
       number_below c.geometry (Tx s) p f (All-head (IsItemOn c.geometry (Tx s)) p ps (lawful_next s (p ∷ ps) later next)) e in
       h.keeps.sources n below ∙ (waits.sent s n).source some
 
-  first_from : (s : ℕ) (xs packet : List Item) (later : List (List Item)) → waiting c (sending_of c s mine) ≡ packet ∷ later → 1 ≤ length xs
+  first_from : (s : ℕ) (xs packet : List Item) (later : List (List Item)) → waiting c (tx_work_of c s mine) ≡ packet ∷ later → 1 ≤ length xs
       → All (IsItemOn c.geometry (Comp d)) xs → map addr_of xs ≡ map addr_of packet → first_source kept.sources xs ≡ Some (Tx s)
   first_from s [] packet later next some lawful same = absurd (omega (arith, some))
   first_from s (x ∷ xs) [] later next some lawful same = absurd (cc)
@@ -180,7 +180,7 @@ module _ (c : Config) (kept : Noted) (mine : List Told) (d : ℕ) (items : List 
       let address : x.desc.addr ≡ p.desc.addr = cc in
       let on : IsItemOn c.geometry (Tx s) p = All-head (IsItemOn c.geometry (Tx s)) p ps (lawful_next s (p ∷ ps) later next) in
       let inside : IsInside c.geometry p =
-      All-head (IsInside c.geometry) p ps (all_next (IsInside c.geometry) c (sending_of c s mine) (p ∷ ps) later next (uncompleted_inside c (sending_of c s mine))) in
+      All-head (IsInside c.geometry) p ps (all_next (IsInside c.geometry) c (tx_work_of c s mine) (p ∷ ps) later next (uncompleted_inside c (tx_work_of c s mine))) in
       let frame = framed c.geometry (Tx s) p on inside in
       let number : option_map (λ (f : Frame). f.number) x.frame ≡ Some frame.0.number =
       (All-head (IsItemOn c.geometry (Comp d)) x xs lawful).frame ∙ ap (frame_of c.geometry) address ∙ sym on.frame ∙ ap (option_map (λ (f : Frame). f.number)) frame.1 in
@@ -189,7 +189,7 @@ module _ (c : Config) (kept : Noted) (mine : List Told) (d : ℕ) (items : List 
   pub completed_back : 1 ≤ length items → All (IsItemOn c.geometry (Comp d)) items → AreCompleted c mine (Comp d) items → GivesBack c kept d items
   completed_back some lawful done =
       let s : ℕ = done.socket in
-      let u : Sending = sending_of c s mine in
+      let u : TxWork = tx_work_of c s mine in
       let w : IsWhole c.geometry c.sg done.packet = waiting_whole c u done.packet done.later done.next in
       let more : List XdpDesc = map desc_of (joined done.later ++ rest c.geometry c.sg u.peeked) in
       let first : IsPacket (map desc_of done.packet ++ more) items =

@@ -13,13 +13,13 @@ use Rattle.xsk_model.specs.Config.{Config}
 use Rattle.xsk_model.specs.Packets.{rest}
 use Rattle.xsk_model.specs.Numbers.{times, number_of, numbers}
 use Rattle.xsk_model.specs.Entry.{Told, with_told}
-use Rattle.xsk_model.specs.Own.{Sending, had_of, is_same, waiting, completed_by, sending_of}
+use Rattle.xsk_model.specs.Own.{TxWork, had_of, is_same, waiting, completed_by, tx_work_of}
 use Rattle.xsk_model.specs.Legal.{IsItemOn, AreCompleted}
 use Rattle.xsk_model.specs.declared.call.Ring.TheVariants.{Comp, Tx}
 use Rattle.xsk_model.specs.declared.call.Call.TheVariants.{Submit}
 use Rattle.xsk_model.specs.declared.call.Reply.TheVariants.{Submitted}
 use Rattle.xsk_model.proofs.Counting.{times-append, its_own, numbers-append}
-use Rattle.xsk_model.proofs.Sendings.{wholes, sending_of-push}
+use Rattle.xsk_model.proofs.Sendings.{wholes, tx_work_of-push}
 use Rattle.xsk_model.proofs.Completions.{kept, is_same-self, times-numbers-append, is_same-true}
 use Rattle.xsk_legal.specs.Standing.{source_of, begins, given_back, desc_of, uncompleted}
 use Rattle.xsk_legal.proofs.Steps.{all_later}
@@ -65,7 +65,7 @@ begins_front : (front later : List ℕ) (packet : List Item) (groups : List (Lis
 begins_front front later packet groups e =
     ap (λ ns. is_same front (take (length front) ns)) e ∙ ap (is_same front) (take-append_seam front later) ∙ is_same-self front
 
-waiting_part : (n : ℕ) (c : Config) (u : Sending) → times n (flat_map numbers (waiting c u)) ≤ times n (kept c u)
+waiting_part : (n : ℕ) (c : Config) (u : TxWork) → times n (flat_map numbers (waiting c u)) ≤ times n (kept c u)
 waiting_part n c u = omega (arith, times-append n (flat_map numbers (waiting c u)) (numbers (rest c.geometry c.sg u.peeked)))
 
 same_ring : (s k : ℕ) → Some (Tx s) ≡ Some (Tx k) → s ≡ k
@@ -80,7 +80,7 @@ same_zero false n h = refl
 module _ (c : Config) (mine : List Told) (d : ℕ) (items : List Item) (waits : IsWaiting c mine) (lawful : All (IsItemOn c.geometry (Comp d)) items)
     (had : (n : ℕ) → times n (numbers items) ≤ times n (had_of mine)) (done : AreCompleted c mine (Comp d) items) where
   packet_inside : All (IsInside c.geometry) done.packet
-  packet_inside = all_next (IsInside c.geometry) c (sending_of c done.socket mine) done.packet done.later done.next (uncompleted_inside c (sending_of c done.socket mine))
+  packet_inside = all_next (IsInside c.geometry) c (tx_work_of c done.socket mine) done.packet done.later done.next (uncompleted_inside c (tx_work_of c done.socket mine))
 
   inside : All (IsInside c.geometry) items
   inside = inside_by c.geometry items done.packet done.addresses packet_inside
@@ -93,7 +93,7 @@ module _ (c : Config) (mine : List Told) (d : ℕ) (items : List Item) (waits : 
     ap (times n) done.frames,
     ap (λ ws. times n (flat_map numbers ws)) done.next,
     times-append n (numbers done.packet) (flat_map numbers done.later),
-    waiting_part n c (sending_of c done.socket mine),
+    waiting_part n c (tx_work_of c done.socket mine),
   ))
 
   -- an item in the midst
@@ -129,7 +129,7 @@ module _ (c : Config) (mine : List Told) (d : ℕ) (items : List Item) (waits : 
 
   -- numbers that stand in what another ring waits for aren't those of the items
   not_there : (first : Item) (others : List Item) (more : List Item) → items ≡ (first ∷ others) ++ more → (s : ℕ) → (s ≡ done.socket → ⊥)
-      → ((n : ℕ) → times n (numbers (first ∷ others)) ≤ times n (flat_map numbers (waiting c (sending_of c s mine)))) → ⊥
+      → ((n : ℕ) → times n (numbers (first ∷ others)) ≤ times n (flat_map numbers (waiting c (tx_work_of c s mine)))) → ⊥
   not_there first others more is s other within =
       let f : (f : Frame) × (first.frame ≡ Some f) = item_framed [] first (others ++ more) is in
       let some : 1 ≤ times f.0.number (numbers (first ∷ others)) =
@@ -140,15 +140,15 @@ module _ (c : Config) (mine : List Told) (d : ℕ) (items : List Item) (waits : 
         its_own f.0.number f.0.number refl,
       ) in
       let there : source_of f.0.number mine ≡ Some (Tx s) =
-      (waits.sent s f.0.number).source (omega (arith, some, within f.0.number, waiting_part f.0.number c (sending_of c s mine))) in
+      (waits.sent s f.0.number).source (omega (arith, some, within f.0.number, waiting_part f.0.number c (tx_work_of c s mine))) in
       other (same_ring s done.socket (sym there ∙ item_from [] first (others ++ more) is))
 
   given_other : (front more : List Item) → items ≡ front ++ more → (s : ℕ) → (s ≡ done.socket → ⊥) → given_back c mine (Comp d) front s ≡ 0
-  given_other [] more is s other = same_zero (begins [] (waiting c (sending_of c s mine))) 0 refl
-  given_other (first ∷ others) more is s other = either (begins (numbers (first ∷ others)) (waiting c (sending_of c s mine))) refl
+  given_other [] more is s other = same_zero (begins [] (waiting c (tx_work_of c s mine))) 0 refl
+  given_other (first ∷ others) more is s other = either (begins (numbers (first ∷ others)) (waiting c (tx_work_of c s mine))) refl
     where
-      either : (b : Bool) → begins (numbers (first ∷ others)) (waiting c (sending_of c s mine)) ≡ b → cond b (length (first ∷ others)) 0 ≡ 0
-      either true e = absurd (not_there first others more is s other (λ n. begins_times n (numbers (first ∷ others)) (waiting c (sending_of c s mine)) e))
+      either : (b : Bool) → begins (numbers (first ∷ others)) (waiting c (tx_work_of c s mine)) ≡ b → cond b (length (first ∷ others)) 0 ≡ 0
+      either true e = absurd (not_there first others more is s other (λ n. begins_times n (numbers (first ∷ others)) (waiting c (tx_work_of c s mine)) e))
       either false e = refl
 
   given_here : (front more : List Item) → items ≡ front ++ more → given_back c mine (Comp d) front done.socket ≡ length front
@@ -169,51 +169,51 @@ module _ (c : Config) (mine : List Told) (d : ℕ) (items : List Item) (waits : 
   as_long = omega (arith, ap length done.addresses, length-map items (λ (i : Item). i.desc.addr), length-map done.packet (λ (i : Item). i.desc.addr))
 
   -- what waits on the ring
-  pub next_items : uncompleted c (sending_of c done.socket mine) ≡ done.packet ++ (joined done.later ++ rest c.geometry c.sg (sending_of c done.socket mine).peeked)
+  pub next_items : uncompleted c (tx_work_of c done.socket mine) ≡ done.packet ++ (joined done.later ++ rest c.geometry c.sg (tx_work_of c done.socket mine).peeked)
   next_items =
-      ap (λ ws. joined ws ++ rest c.geometry c.sg (sending_of c done.socket mine).peeked) done.next
-      ∙ append_assoc done.packet (joined done.later) (rest c.geometry c.sg (sending_of c done.socket mine).peeked)
+      ap (λ ws. joined ws ++ rest c.geometry c.sg (tx_work_of c done.socket mine).peeked) done.next
+      ∙ append_assoc done.packet (joined done.later) (rest c.geometry c.sg (tx_work_of c done.socket mine).peeked)
 
-  pub some_left : length items + length (rest c.geometry c.sg (sending_of c done.socket mine).peeked) ≤ length (uncompleted c (sending_of c done.socket mine))
+  pub some_left : length items + length (rest c.geometry c.sg (tx_work_of c done.socket mine).peeked) ≤ length (uncompleted c (tx_work_of c done.socket mine))
   some_left =
       omega (
         arith,
         as_long,
         ap length next_items,
-        length-append done.packet (joined done.later ++ rest c.geometry c.sg (sending_of c done.socket mine).peeked),
-        length-append (joined done.later) (rest c.geometry c.sg (sending_of c done.socket mine).peeked),
+        length-append done.packet (joined done.later ++ rest c.geometry c.sg (tx_work_of c done.socket mine).peeked),
+        length-append (joined done.later) (rest c.geometry c.sg (tx_work_of c done.socket mine).peeked),
       )
 
   -- ---- the whole Submit
 
-  pub told_sending : (s : ℕ) → sending_of c s (with_told mine (Submit (Comp d) items) Submitted)
-      ≡ record (sending_of c s mine) { completed = (sending_of c s mine).completed + length (completed_by items (waiting c (sending_of c s mine))) }
-  told_sending s = sending_of-push c s mine (record { call = Submit (Comp d) items; reply = Submitted })
+  pub told_sending : (s : ℕ) → tx_work_of c s (with_told mine (Submit (Comp d) items) Submitted)
+      ≡ record (tx_work_of c s mine) { completed = (tx_work_of c s mine).completed + length (completed_by items (waiting c (tx_work_of c s mine))) }
+  told_sending s = tx_work_of-push c s mine (record { call = Submit (Comp d) items; reply = Submitted })
 
-  completed_here : length (completed_by items (waiting c (sending_of c done.socket mine))) ≡ 1
+  completed_here : length (completed_by items (waiting c (tx_work_of c done.socket mine))) ≡ 1
   completed_here =
       ap (λ ws. length (completed_by items ws)) done.next
       ∙ ap (λ ns. length (cond (is_same (numbers items) ns) (done.packet ∷ []) [])) (sym done.frames)
       ∙ ap (λ b. length (cond b (done.packet ∷ []) [])) (is_same-self (numbers items))
 
-  completed_other : (first : Item) (others : List Item) → items ≡ first ∷ others → (s : ℕ) → (s ≡ done.socket → ⊥) → length (completed_by items (waiting c (sending_of c s mine))) ≡ 0
+  completed_other : (first : Item) (others : List Item) → items ≡ first ∷ others → (s : ℕ) → (s ≡ done.socket → ⊥) → length (completed_by items (waiting c (tx_work_of c s mine))) ≡ 0
   completed_other first others is s other = ⊎_elim
-      (λ (some : 0 < length (completed_by items (waiting c (sending_of c s mine)))).
+      (λ (some : 0 < length (completed_by items (waiting c (tx_work_of c s mine)))).
       absurd (not_there first others [] (is ∙ sym (append-nil (first ∷ others))) s other
-      (λ n. subst (λ xs. times n (numbers xs) ≤ times n (flat_map numbers (waiting c (sending_of c s mine)))) is (completes_times n items (waiting c (sending_of c s mine)) some))))
-      (λ (none : length (completed_by items (waiting c (sending_of c s mine))) ≤ 0). omega (arith, none))
-      (cases_lt 0 (length (completed_by items (waiting c (sending_of c s mine)))))
+      (λ n. subst (λ xs. times n (numbers xs) ≤ times n (flat_map numbers (waiting c (tx_work_of c s mine)))) is (completes_times n items (waiting c (tx_work_of c s mine)) some))))
+      (λ (none : length (completed_by items (waiting c (tx_work_of c s mine))) ≤ 0). omega (arith, none))
+      (cases_lt 0 (length (completed_by items (waiting c (tx_work_of c s mine)))))
 
-  left_here : map desc_of (uncompleted c (sending_of c done.socket (with_told mine (Submit (Comp d) items) Submitted)))
-      ≡ drop (length items) (map desc_of (uncompleted c (sending_of c done.socket mine)))
+  left_here : map desc_of (uncompleted c (tx_work_of c done.socket (with_told mine (Submit (Comp d) items) Submitted)))
+      ≡ drop (length items) (map desc_of (uncompleted c (tx_work_of c done.socket mine)))
   left_here =
-      let u : Sending = sending_of c done.socket mine in
+      let u : TxWork = tx_work_of c done.socket mine in
       let later : List Item = joined done.later ++ rest c.geometry c.sg u.peeked in
       let waits_now : drop (u.completed + length (completed_by items (waiting c u))) (wholes c u) ≡ done.later =
       ap (λ k. drop (u.completed + k) (wholes c u)) completed_here
       ∙ sym (drop-drop 1 u.completed (wholes c u))
       ∙ ap (drop 1) done.next in
-      let now : uncompleted c (sending_of c done.socket (with_told mine (Submit (Comp d) items) Submitted)) ≡ later =
+      let now : uncompleted c (tx_work_of c done.socket (with_told mine (Submit (Comp d) items) Submitted)) ≡ later =
       ap (uncompleted c) (told_sending done.socket) ∙ ap (λ ws. joined ws ++ rest c.geometry c.sg u.peeked) waits_now in
       let size : length items ≡ length (map desc_of done.packet) = omega (arith, as_long, length-map done.packet desc_of) in
       ap (map desc_of) now
@@ -222,22 +222,22 @@ module _ (c : Config) (mine : List Told) (d : ℕ) (items : List Item) (waits : 
       ∙ ap (drop (length items)) (sym (ap (map desc_of) next_items ∙ map-append desc_of done.packet later))
 
   left_other : (first : Item) (others : List Item) → items ≡ first ∷ others → (s : ℕ) → (s ≡ done.socket → ⊥)
-      → sending_of c s (with_told mine (Submit (Comp d) items) Submitted) ≡ sending_of c s mine
+      → tx_work_of c s (with_told mine (Submit (Comp d) items) Submitted) ≡ tx_work_of c s mine
   left_other first others is s other =
-      let none : (sending_of c s mine).completed + length (completed_by items (waiting c (sending_of c s mine))) ≡ (sending_of c s mine).completed = omega (arith, completed_other first others is s other) in
-      told_sending s ∙ ap (λ k. record (sending_of c s mine) { completed = k }) none
+      let none : (tx_work_of c s mine).completed + length (completed_by items (waiting c (tx_work_of c s mine))) ≡ (tx_work_of c s mine).completed = omega (arith, completed_other first others is s other) in
+      told_sending s ∙ ap (λ k. record (tx_work_of c s mine) { completed = k }) none
 
   -- the ring has lost its first packet, and the others are as they were
   pub left_is : (first : Item) (others : List Item) → items ≡ first ∷ others → (s : ℕ)
-      → map desc_of (uncompleted c (sending_of c s (with_told mine (Submit (Comp d) items) Submitted)))
-      ≡ drop (cond (eqb s done.socket) (length items) 0) (map desc_of (uncompleted c (sending_of c s mine)))
+      → map desc_of (uncompleted c (tx_work_of c s (with_told mine (Submit (Comp d) items) Submitted)))
+      ≡ drop (cond (eqb s done.socket) (length items) 0) (map desc_of (uncompleted c (tx_work_of c s mine)))
   left_is first others is s = ⊎_elim
       (λ (e : s ≡ done.socket).
-      ap (λ k. map desc_of (uncompleted c (sending_of c k (with_told mine (Submit (Comp d) items) Submitted)))) e
+      ap (λ k. map desc_of (uncompleted c (tx_work_of c k (with_told mine (Submit (Comp d) items) Submitted)))) e
       ∙ left_here
-      ∙ ap (λ k. drop (length items) (map desc_of (uncompleted c (sending_of c k mine)))) (sym e)
-      ∙ ap (λ b. drop (cond b (length items) 0) (map desc_of (uncompleted c (sending_of c s mine)))) (sym (eq-eqb s done.socket e)))
+      ∙ ap (λ k. drop (length items) (map desc_of (uncompleted c (tx_work_of c k mine)))) (sym e)
+      ∙ ap (λ b. drop (cond b (length items) 0) (map desc_of (uncompleted c (tx_work_of c s mine)))) (sym (eq-eqb s done.socket e)))
       (λ (e : s ≡ done.socket → ⊥).
       ap (λ u. map desc_of (uncompleted c u)) (left_other first others is s e)
-      ∙ ap (λ b. drop (cond b (length items) 0) (map desc_of (uncompleted c (sending_of c s mine)))) (sym (ne_eqb s done.socket e)))
+      ∙ ap (λ b. drop (cond b (length items) 0) (map desc_of (uncompleted c (tx_work_of c s mine)))) (sym (ne_eqb s done.socket e)))
       (cases_eq s done.socket)

@@ -14,7 +14,7 @@ use Rattle.xsk_model.specs.declared.call.Call.TheVariants.{Submit, Peek}
 use Rattle.xsk_model.specs.declared.call.Reply.TheVariants.{Submitted, Items}
 use Rattle.xsk_legal.specs.Noted.{Noted}
 use Rattle.xsk_legal.specs.Standing.{StandsFor, IsPlacing, IsFetching}
-use Rattle.xsk_legal.specs.Noting.{CanPlace, CanFetch}
+use Rattle.xsk_legal.specs.ItemNotes.{CanPlace, CanFetch}
 use Rattle.xsk_legal.proofs.Able.{can_place, can_fetch}
 use Rattle.xsk_legal.proofs.Going.{gift_fits}
 use Rattle.xsk_legal.proofs.Quiet.{begins_with_none}

@@ -9,7 +9,7 @@ use Rattle.xsk_umem.specs.declared.batch.XdpDesc.{XdpDesc}
 use Rattle.xsk_model.specs.Config.{Config}
 use Rattle.xsk_model.specs.Descriptor.{is_valid}
 use Rattle.xsk_model.specs.Packets.{Packet, whole, bad, packets, rest, ended_by, group_after, whole_packets}
-use Rattle.xsk_model.specs.Own.{Sending, waiting}
+use Rattle.xsk_model.specs.Own.{TxWork, waiting}
 use Rattle.xsk_model.proofs.PacketsLaws.{packets-push, rest-push, whole_packets-append}
 use Rattle.xsk_model.proofs.Sendings.{wholes}
 use Rattle.xsk_legal.specs.Noted.{Queue}
@@ -78,7 +78,7 @@ outcome false true false waits group item q h = (
 )
 
 -- the queue stands for what is peeked and not completed
-pub pushed_is : (c : Config) (u : Sending) (item : Item) (q : Queue) → u.completed ≤ length (wholes c u)
+pub pushed_is : (c : Config) (u : TxWork) (item : Item) (q : Queue) → u.completed ≤ length (wholes c u)
     → (q.descs ≡ map desc_of (uncompleted c u)) × (q.begun ≡ length (rest c.geometry c.sg u.peeked))
     → ((pushed c.geometry c.sg q item.desc).descs ≡ map desc_of (uncompleted c (record u { peeked = u.peeked ++ item ∷ [] })))
     × ((pushed c.geometry c.sg q item.desc).begun ≡ length (rest c.geometry c.sg (u.peeked ++ item ∷ [])))

@@ -7,7 +7,7 @@ use Rattle.xsk_model.specs.Numbers.{times, numbers}
 use Rattle.xsk_model.specs.Rings.{is_ring}
 use Rattle.xsk_model.specs.Object.{call_ring, submitted, taken}
 use Rattle.xsk_model.specs.Entry.{Told, with_told}
-use Rattle.xsk_model.specs.Own.{Sending, is_on, granted, released, room_of, held_of, room_step, held_step, waiting, sending_of, sending_after}
+use Rattle.xsk_model.specs.Own.{TxWork, is_on, granted, released, room_of, held_of, room_step, held_step, waiting, tx_work_of, tx_work_after}
 use Rattle.xsk_model.specs.Legal.{IsLegal}
 use Rattle.xsk_model.specs.History.{Fits}
 use Rattle.xsk_model.specs.declared.call.Ring.{Ring}
@@ -20,7 +20,7 @@ use Rattle.xsk_model.specs.declared.call.Call.TheVariants.{Reserve, Submit, Peek
 use Rattle.xsk_model.specs.declared.call.Reply.{Reply}
 use Rattle.xsk_model.specs.declared.call.Reply.TheVariants.{Granted, Full, Submitted, Items, Empty, Released, Old}
 use Rattle.xsk_model.proofs.Folds.{part_of-push}
-use Rattle.xsk_model.proofs.Sendings.{sending_of-push}
+use Rattle.xsk_model.proofs.Sendings.{tx_work_of-push}
 use Rattle.xsk_legal.specs.declared.marked.Marked.{Marked}
 use Rattle.xsk_legal.specs.Noted.{Noted}
 use Rattle.xsk_legal.specs.Marked.{after_swap, after_look, IsMarked}
@@ -39,7 +39,7 @@ record IsQuiet (c : Config) (mine : List Told) (t : Told) : Type 0 where
   takes : taken t.reply ≡ []
   gets : granted t.call t.reply ≡ 0
   frees : released t.call ≡ 0
-  still : (s : ℕ) → sending_after c s (sending_of c s mine) t.call t.reply ≡ sending_of c s mine
+  still : (s : ℕ) → tx_work_after c s (tx_work_of c s mine) t.call t.reply ≡ tx_work_of c s mine
 
 same_cond : {X : Type 0} (b : Bool) (x y : X) → x ≡ y → cond b x y ≡ y
 same_cond true x y e = e
@@ -62,8 +62,8 @@ module _ (c : Config) (kept : Noted) (mine : List Told) (t : Told) (quiet : IsQu
       ∙ ap (λ items. cond (nat_lt 0 (times n (numbers items))) (call_ring t.call) (cond (nat_lt 0 (times n (numbers (submitted t.call)))) None (source_of n mine))) quiet.takes
       ∙ ap (λ items. cond (nat_lt 0 (times n (numbers items))) None (source_of n mine)) quiet.submits
 
-  sending_same : (s : ℕ) → sending_of c s (mine ++ t ∷ []) ≡ sending_of c s mine
-  sending_same s = sending_of-push c s mine t ∙ quiet.still s
+  sending_same : (s : ℕ) → tx_work_of c s (mine ++ t ∷ []) ≡ tx_work_of c s mine
+  sending_same s = tx_work_of-push c s mine t ∙ quiet.still s
 
   stands_on : (marked : Marked) → StandsFor c kept mine → IsLegal c mine kept.who t.call → Fits c mine t.call t.reply → IsMarked c kept.who marked (mine ++ t ∷ [])
       → StandsFor c (record kept { marked = marked }) (mine ++ t ∷ [])
@@ -84,7 +84,7 @@ module _ (c : Config) (kept : Noted) (mine : List Told) (t : Told) (quiet : IsQu
     };
   }
 
-peeked_none : (b : Bool) (u : Sending) → cond b (record u { peeked = u.peeked ++ [] }) u ≡ u
+peeked_none : (b : Bool) (u : TxWork) → cond b (record u { peeked = u.peeked ++ [] }) u ≡ u
 peeked_none true u = ap (λ (items : List Item). record u { peeked = items }) (append-nil u.peeked)
 peeked_none false u = refl
 
@@ -114,7 +114,7 @@ quiet_call c mine (Peek r n) (Full places) fits none = absurd fits
 quiet_call c mine (Peek r n) Submitted fits none = absurd fits
 quiet_call c mine (Peek r n) (Items items) fits none = absurd (cc)
 quiet_call c mine (Peek r n) Empty fits none =
-    record { submits = refl; takes = refl; gets = refl; frees = refl; still = λ s. peeked_none (is_ring (Tx s) r) (sending_of c s mine) }
+    record { submits = refl; takes = refl; gets = refl; frees = refl; still = λ s. peeked_none (is_ring (Tx s) r) (tx_work_of c s mine) }
 quiet_call c mine (Peek r n) Released fits none = absurd fits
 quiet_call c mine (Peek r n) (Old value) fits none = absurd fits
 quiet_call c mine (Release r n) Granted fits none = absurd fits
@@ -213,7 +213,7 @@ cond_both false n = refl
 
 none_given : (c : Config) (mine : List Told) (r : Ring) (s : ℕ) → given_back c mine r [] s ≡ 0
 none_given c mine (Fill d) s = refl
-none_given c mine (Comp d) s = cond_both (begins [] (waiting c (sending_of c s mine))) 0
+none_given c mine (Comp d) s = cond_both (begins [] (waiting c (tx_work_of c s mine))) 0
 none_given c mine (Rx t) s = refl
 none_given c mine (Tx t) s = refl
 
@@ -232,7 +232,7 @@ begins_with_none c kept mine r h =
           room = keeps.room;
           held = keeps.held;
           sources = keeps.sources;
-          descs = λ s has. keeps.descs s has ∙ ap (λ n. drop n (map desc_of (uncompleted c (sending_of c s mine)))) (sym (none_given c mine r s));
+          descs = λ s has. keeps.descs s has ∙ ap (λ n. drop n (map desc_of (uncompleted c (tx_work_of c s mine)))) (sym (none_given c mine r s));
           begun = keeps.begun;
           marked = keeps.marked;
         };

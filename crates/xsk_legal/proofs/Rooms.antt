@@ -6,7 +6,7 @@ use Rattle.xsk_model.specs.Numbers.{times, numbers}
 use Rattle.xsk_model.specs.Rings.{is_ring, place}
 use Rattle.xsk_model.specs.Object.{call_ring, submitted, taken}
 use Rattle.xsk_model.specs.Entry.{Told, with_told}
-use Rattle.xsk_model.specs.Own.{is_on, room_of, held_of, room_step, held_step, sending_of, sending_after}
+use Rattle.xsk_model.specs.Own.{is_on, room_of, held_of, room_step, held_step, tx_work_of, tx_work_after}
 use Rattle.xsk_model.specs.Legal.{IsLegal}
 use Rattle.xsk_model.specs.History.{MayGive}
 use Rattle.xsk_model.specs.declared.call.Ring.{Ring}
@@ -14,7 +14,7 @@ use Rattle.xsk_model.specs.declared.call.Call.TheVariants.{Reserve, Release}
 use Rattle.xsk_model.specs.declared.call.Reply.TheVariants.{Granted, Released}
 use Rattle.xsk_model.proofs.Places.{get_or-set-place, place_below, is_ring-true, is_ring-self}
 use Rattle.xsk_model.proofs.Folds.{part_of-push, part_of-push_same}
-use Rattle.xsk_model.proofs.Sendings.{sending_of-push}
+use Rattle.xsk_model.proofs.Sendings.{tx_work_of-push}
 use Rattle.xsk_legal.specs.declared.standing.Places.{Places}
 use Rattle.xsk_legal.specs.Noted.{Noted}
 use Rattle.xsk_legal.specs.Standing.{with_places, StandsFor, Keeps, places_at, source_of, uncompleted, desc_of, none_back}
@@ -26,7 +26,7 @@ use Rattle.xsk_model.proofs.OwnRuns.{own_push}
 -- a call that moves no frame
 module _ (c : Config) (kept : Noted) (mine : List Told) (t : Told) (r : Ring) (p : Places) where
   pub keeps_quiet : HasRing c r → submitted t.call ≡ [] → taken t.reply ≡ [] → ((u : Ring) → is_on u t.call ≡ is_ring u r)
-      → ((s : ℕ) → sending_after c s (sending_of c s mine) t.call t.reply ≡ sending_of c s mine)
+      → ((s : ℕ) → tx_work_after c s (tx_work_of c s mine) t.call t.reply ≡ tx_work_of c s mine)
       → SameMarks mine (mine ++ t ∷ [])
       → Keeps c kept mine mine none_back
       → p.room ≡ room_step (places_at kept (place c r)).room t
@@ -53,8 +53,8 @@ module _ (c : Config) (kept : Noted) (mine : List Told) (t : Told) (r : Ring) (p
             ∙ ap (λ b. cond b (held_step (held_of u mine) t) (held_of u mine)) (sym (on u))
             ∙ sym (part_of-push held_step u 0 mine t);
         sources = λ n k. h.sources n k ∙ sym (same_source n);
-        descs = λ s k. h.descs s k ∙ ap (λ u. map desc_of (uncompleted c u)) (sym (sending_of-push c s mine t ∙ still s));
-        begun = λ s k. h.begun s k ∙ ap (λ u. length (rest c.geometry c.sg u.peeked)) (sym (sending_of-push c s mine t ∙ still s));
+        descs = λ s k. h.descs s k ∙ ap (λ u. map desc_of (uncompleted c u)) (sym (tx_work_of-push c s mine t ∙ still s));
+        begun = λ s k. h.begun s k ∙ ap (λ u. length (rest c.geometry c.sg u.peeked)) (sym (tx_work_of-push c s mine t ∙ still s));
         marked = marks_same c kept.who kept.marked mine (mine ++ t ∷ []) same h.marked;
       }
     where

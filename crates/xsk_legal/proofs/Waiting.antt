@@ -16,7 +16,7 @@ use Rattle.xsk_model.specs.Numbers.{times, number_of, numbers}
 use Rattle.xsk_model.specs.Rings.{is_ring}
 use Rattle.xsk_model.specs.Object.{call_ring, submitted, taken}
 use Rattle.xsk_model.specs.Entry.{Told}
-use Rattle.xsk_model.specs.Own.{Sending, is_from_fill, is_same, waiting, completed_by, sending_after, sending_of}
+use Rattle.xsk_model.specs.Own.{TxWork, is_from_fill, is_same, waiting, completed_by, tx_work_after, tx_work_of}
 use Rattle.xsk_model.specs.Legal.{IsLegal, IsItemOn, AreCompleted}
 use Rattle.xsk_model.specs.History.{Fits, OwnGoesOn}
 use Rattle.xsk_model.specs.declared.call.Ring.{Ring}
@@ -28,7 +28,7 @@ use Rattle.xsk_model.proofs.PacketsLaws.{packets-items, packets-made}
 use Rattle.xsk_model.proofs.Counting.{times-append, numbers-append, length-by_times, not_yet}
 use Rattle.xsk_model.proofs.Places.{is_ring-true}
 use Rattle.xsk_model.proofs.OwnRuns.{own_all, fits_taken}
-use Rattle.xsk_model.proofs.Sendings.{wholes, sending_of-push, IsWithin, within-push}
+use Rattle.xsk_model.proofs.Sendings.{wholes, tx_work_of-push, IsWithin, within-push}
 use Rattle.xsk_model.proofs.Completions.{kept, kept-peek, kept-comp, is_same-self, whole_of_packets}
 use Rattle.xsk_legal.specs.Standing.{source_of, uncompleted}
 use Rattle.xsk_legal.proofs.Sources.{once, is_fill_ring, IsSource, source_of-push, source_step_holds}
@@ -37,7 +37,7 @@ use Rattle.xsk_legal.proofs.Steps.{all_first, all_later}
 -- ---- what one call leaves of these frames
 
 -- a number of the next packet that waits
-kept-first : (n : ℕ) (c : Config) (u : Sending) (packet : List Item) (later : List (List Item)) → waiting c u ≡ packet ∷ later
+kept-first : (n : ℕ) (c : Config) (u : TxWork) (packet : List Item) (later : List (List Item)) → waiting c u ≡ packet ∷ later
     → times n (numbers packet) ≤ times n (kept c u)
 kept-first n c u packet later e =
     omega (
@@ -57,8 +57,8 @@ pub record IsSent (n s : ℕ) (here : ℕ) (mine : List Told) : Type 0 where
 pub record IsWaiting (c : Config) (mine : List Told) : Type 0 where
   pub within : (s : ℕ) → IsWithin c s mine
   pub from : (n : ℕ) → IsSource n mine
-  pub sent : (s n : ℕ) → IsSent n s (times n (kept c (sending_of c s mine))) mine
-  pub lawful : (s : ℕ) → All (IsItemOn c.geometry (Tx s)) (sending_of c s mine).peeked
+  pub sent : (s n : ℕ) → IsSent n s (times n (kept c (tx_work_of c s mine))) mine
+  pub lawful : (s : ℕ) → All (IsItemOn c.geometry (Tx s)) (tx_work_of c s mine).peeked
 
 -- a frame with a source is had, so it can't be brought
 not_brought : (c : Config) (mine : List Told) (t : Told) (n : ℕ) (r : Ring) → Fits c mine t.call t.reply → IsSource n mine → source_of n mine ≡ Some r
@@ -110,18 +110,18 @@ comes c mine s k n before now reply fits from h most =
 
 -- the frames of a completed packet go
 goes_back : (c : Config) (mine : List Told) (d s n : ℕ) (items : List Item) → AreCompleted c mine (Comp d) items → IsWaiting c mine
-    → 1 ≤ times n (kept c (record (sending_of c s mine) { completed = (sending_of c s mine).completed + length (completed_by items (waiting c (sending_of c s mine))) }))
+    → 1 ≤ times n (kept c (record (tx_work_of c s mine) { completed = (tx_work_of c s mine).completed + length (completed_by items (waiting c (tx_work_of c s mine))) }))
     → times n (numbers items) ≤ 0
 goes_back c mine d s n items h waits some = ⊎_elim
     (λ (given : 0 < times n (numbers items)).
-    let there : 1 ≤ times n (kept c (sending_of c h.socket mine)) =
-    omega (arith, given, ap (times n) h.frames, kept-first n c (sending_of c h.socket mine) h.packet h.later h.next) in
-    let count = kept-comp n c (sending_of c s mine) items in
+    let there : 1 ≤ times n (kept c (tx_work_of c h.socket mine)) =
+    omega (arith, given, ap (times n) h.frames, kept-first n c (tx_work_of c h.socket mine) h.packet h.later h.next) in
+    let count = kept-comp n c (tx_work_of c s mine) items in
     let here : source_of n mine ≡ Some (Tx s) = (waits.sent s n).source (omega (arith, some, count)) in
     let other : source_of n mine ≡ Some (Tx h.socket) = (waits.sent h.socket n).source there in
     let one : s ≡ h.socket = same_ring s h.socket (sym here ∙ other) in
-    let done : completed_by items (waiting c (sending_of c s mine)) ≡ h.packet ∷ [] =
-    ap (λ k. completed_by items (waiting c (sending_of c k mine))) one
+    let done : completed_by items (waiting c (tx_work_of c s mine)) ≡ h.packet ∷ [] =
+    ap (λ k. completed_by items (waiting c (tx_work_of c k mine))) one
     ∙ ap (completed_by items) h.next
     ∙ ap (λ ns. cond (is_same (numbers items) ns) (h.packet ∷ []) []) (sym h.frames)
     ∙ ap (λ b. cond b (h.packet ∷ []) []) (is_same-self (numbers items)) in
@@ -149,33 +149,33 @@ not_fill n s mine from source fill =
 module _ (c : Config) (d : ℕ) (below : d < length c.pairs) where
   -- where a TX ring's packets stay as they are
   same_sent : (mine : List Told) (t : Told) (s n : ℕ) → Fits c mine t.call t.reply → IsWaiting c mine
-      → sending_after c s (sending_of c s mine) t.call t.reply ≡ sending_of c s mine
-      → (1 ≤ times n (kept c (sending_of c s mine)) → times n (numbers (submitted t.call)) ≤ 0)
-      → IsSent n s (times n (kept c (sending_after c s (sending_of c s mine) t.call t.reply))) (mine ++ t ∷ [])
+      → tx_work_after c s (tx_work_of c s mine) t.call t.reply ≡ tx_work_of c s mine
+      → (1 ≤ times n (kept c (tx_work_of c s mine)) → times n (numbers (submitted t.call)) ≤ 0)
+      → IsSent n s (times n (kept c (tx_work_after c s (tx_work_of c s mine) t.call t.reply))) (mine ++ t ∷ [])
   same_sent mine t s n fits h same few =
       subst (λ u. IsSent n s (times n (kept c u)) (mine ++ t ∷ [])) (sym same)
-      (stays c mine t s n (times n (kept c (sending_of c s mine))) (times n (kept c (sending_of c s mine))) fits (h.from n) (h.sent s n) (omega arith) few)
+      (stays c mine t s n (times n (kept c (tx_work_of c s mine))) (times n (kept c (tx_work_of c s mine))) fits (h.from n) (h.sent s n) (omega arith) few)
 
   sent_peek : (mine : List Told) (r : Ring) (k : ℕ) (reply : Reply) (s n : ℕ) (b : Bool) → is_ring (Tx s) r ≡ b → Fits c mine (Peek r k) reply → IsWaiting c mine
-      → IsSent n s (times n (kept c (cond b (record (sending_of c s mine) { peeked = (sending_of c s mine).peeked ++ taken reply }) (sending_of c s mine))))
+      → IsSent n s (times n (kept c (cond b (record (tx_work_of c s mine) { peeked = (tx_work_of c s mine).peeked ++ taken reply }) (tx_work_of c s mine))))
       (mine ++ (record { call = Peek r k; reply = reply }) ∷ [])
   sent_peek mine r k reply s n true e fits h =
       let one : Tx s ≡ r = is_ring-true (Tx s) r e in
-      subst (λ q. IsSent n s (times n (kept c (record (sending_of c s mine) { peeked = (sending_of c s mine).peeked ++ taken reply }))) (mine ++ (record { call = Peek q k; reply = reply }) ∷ [])) one
-      (comes c mine s k n (times n (kept c (sending_of c s mine))) (times n (kept c (record (sending_of c s mine) { peeked = (sending_of c s mine).peeked ++ taken reply }))) reply
-      (subst (λ q. Fits c mine (Peek q k) reply) (sym one) fits) (h.from n) (h.sent s n) (kept-peek n c (sending_of c s mine) (taken reply) (h.within s)))
+      subst (λ q. IsSent n s (times n (kept c (record (tx_work_of c s mine) { peeked = (tx_work_of c s mine).peeked ++ taken reply }))) (mine ++ (record { call = Peek q k; reply = reply }) ∷ [])) one
+      (comes c mine s k n (times n (kept c (tx_work_of c s mine))) (times n (kept c (record (tx_work_of c s mine) { peeked = (tx_work_of c s mine).peeked ++ taken reply }))) reply
+      (subst (λ q. Fits c mine (Peek q k) reply) (sym one) fits) (h.from n) (h.sent s n) (kept-peek n c (tx_work_of c s mine) (taken reply) (h.within s)))
   sent_peek mine r k reply s n false e fits h =
-      stays c mine (record { call = Peek r k; reply = reply }) s n (times n (kept c (sending_of c s mine))) (times n (kept c (sending_of c s mine))) fits (h.from n) (h.sent s n)
+      stays c mine (record { call = Peek r k; reply = reply }) s n (times n (kept c (tx_work_of c s mine))) (times n (kept c (tx_work_of c s mine))) fits (h.from n) (h.sent s n)
       (omega arith) (λ some. omega arith)
 
   sent_step : (mine : List Told) (call : Call) (reply : Reply) (s n : ℕ) → IsLegal c mine d call → Fits c mine call reply → IsWaiting c mine
-      → IsSent n s (times n (kept c (sending_after c s (sending_of c s mine) call reply))) (mine ++ (record { call = call; reply = reply }) ∷ [])
+      → IsSent n s (times n (kept c (tx_work_after c s (tx_work_of c s mine) call reply))) (mine ++ (record { call = call; reply = reply }) ∷ [])
   sent_step mine (Reserve r k) reply s n legal fits h = same_sent mine (record { call = Reserve r k; reply = reply }) s n fits h refl (λ some. omega arith)
   sent_step mine (Submit (Fill e) items) reply s n legal fits h = absurd (omega (arith, below, legal.role))
   sent_step mine (Submit (Comp e) items) reply s n legal fits h =
-      let fewer = kept-comp n c (sending_of c s mine) items in
-      stays c mine (record { call = Submit (Comp e) items; reply = reply }) s n (times n (kept c (sending_of c s mine)))
-      (times n (kept c (record (sending_of c s mine) { completed = (sending_of c s mine).completed + length (completed_by items (waiting c (sending_of c s mine))) })))
+      let fewer = kept-comp n c (tx_work_of c s mine) items in
+      stays c mine (record { call = Submit (Comp e) items; reply = reply }) s n (times n (kept c (tx_work_of c s mine)))
+      (times n (kept c (record (tx_work_of c s mine) { completed = (tx_work_of c s mine).completed + length (completed_by items (waiting c (tx_work_of c s mine))) })))
       fits (h.from n) (h.sent s n) (omega (arith, fewer)) (λ some. goes_back c mine e s n items legal.packets h some)
   sent_step mine (Submit (Rx t) items) reply s n legal fits h =
       same_sent mine (record { call = Submit (Rx t) items; reply = reply }) s n fits h refl
@@ -192,10 +192,10 @@ module _ (c : Config) (d : ℕ) (below : d < length c.pairs) where
   -- ---- items that may stand in the ring
 
   lawful_peek : (mine : List Told) (r : Ring) (k : ℕ) (reply : Reply) (s : ℕ) (b : Bool) → is_ring (Tx s) r ≡ b → Fits c mine (Peek r k) reply
-      → All (IsItemOn c.geometry (Tx s)) (sending_of c s mine).peeked
-      → All (IsItemOn c.geometry (Tx s)) (cond b (record (sending_of c s mine) { peeked = (sending_of c s mine).peeked ++ taken reply }) (sending_of c s mine)).peeked
+      → All (IsItemOn c.geometry (Tx s)) (tx_work_of c s mine).peeked
+      → All (IsItemOn c.geometry (Tx s)) (cond b (record (tx_work_of c s mine) { peeked = (tx_work_of c s mine).peeked ++ taken reply }) (tx_work_of c s mine)).peeked
   lawful_peek mine r k reply s true e fits h =
-      All-append (IsItemOn c.geometry (Tx s)) (sending_of c s mine).peeked (taken reply) h (elim (fits_taken c mine (Peek r k) reply fits) [
+      All-append (IsItemOn c.geometry (Tx s)) (tx_work_of c s mine).peeked (taken reply) h (elim (fits_taken c mine (Peek r k) reply fits) [
         | inl none ↦ subst (All (IsItemOn c.geometry (Tx s))) (sym none) (All-nil (IsItemOn c.geometry (Tx s)))
         | inr peeked ↦
             let one : Tx s ≡ r = is_ring-true (Tx s) r e in
@@ -204,8 +204,8 @@ module _ (c : Config) (d : ℕ) (below : d < length c.pairs) where
       ])
   lawful_peek mine r k reply s false e fits h = h
 
-  lawful_step : (mine : List Told) (call : Call) (reply : Reply) (s : ℕ) → Fits c mine call reply → All (IsItemOn c.geometry (Tx s)) (sending_of c s mine).peeked
-      → All (IsItemOn c.geometry (Tx s)) (sending_after c s (sending_of c s mine) call reply).peeked
+  lawful_step : (mine : List Told) (call : Call) (reply : Reply) (s : ℕ) → Fits c mine call reply → All (IsItemOn c.geometry (Tx s)) (tx_work_of c s mine).peeked
+      → All (IsItemOn c.geometry (Tx s)) (tx_work_after c s (tx_work_of c s mine) call reply).peeked
   lawful_step mine (Reserve r k) reply s fits h = h
   lawful_step mine (Submit (Fill e) items) reply s fits h = h
   lawful_step mine (Submit (Comp e) items) reply s fits h = h
@@ -220,8 +220,8 @@ module _ (c : Config) (d : ℕ) (below : d < length c.pairs) where
   waiting_step mine t legal fits h = record {
     within = λ s. within-push c s mine t (h.within s);
     from = λ n. source_step_holds c d n mine t legal fits (h.from n);
-    sent = λ s n. subst (λ u. IsSent n s (times n (kept c u)) (mine ++ t ∷ [])) (sym (sending_of-push c s mine t)) (sent_step mine t.call t.reply s n legal fits h);
-    lawful = λ s. subst (λ (u : Sending). All (IsItemOn c.geometry (Tx s)) u.peeked) (sym (sending_of-push c s mine t)) (lawful_step mine t.call t.reply s fits (h.lawful s));
+    sent = λ s n. subst (λ u. IsSent n s (times n (kept c u)) (mine ++ t ∷ [])) (sym (tx_work_of-push c s mine t)) (sent_step mine t.call t.reply s n legal fits h);
+    lawful = λ s. subst (λ (u : TxWork). All (IsItemOn c.geometry (Tx s)) u.peeked) (sym (tx_work_of-push c s mine t)) (lawful_step mine t.call t.reply s fits (h.lawful s));
   }
 
   pub own_waiting : (mine : List Told) → OwnGoesOn c d [] mine → IsWaiting c mine
@@ -249,7 +249,7 @@ all_drop P (suc k) [] h = h
 all_drop P (suc k) (group ∷ groups) h = all_drop P k groups (all_later P group (joined groups) h)
 
 -- what holds of all items that were peeked
-pub all_uncompleted : (P : Item → Type 0) (c : Config) (u : Sending) → All P u.peeked → All P (uncompleted c u)
+pub all_uncompleted : (P : Item → Type 0) (c : Config) (u : TxWork) → All P u.peeked → All P (uncompleted c u)
 all_uncompleted P c u h =
     let both : All P (flat_map items_of (packets c.geometry c.sg u.peeked) ++ rest c.geometry c.sg u.peeked) =
     subst (All P) (sym (packets-items c.geometry c.sg u.peeked)) h in
@@ -282,7 +282,7 @@ wholes_inside g sg [] h = All-nil (IsInside g)
 wholes_inside g sg (group ∷ groups) h =
     All-append (IsInside g) group (joined groups) (whole_inside g sg group (All-head (IsWhole g sg) group groups h)) (wholes_inside g sg groups (All-tail (IsWhole g sg) group groups h))
 
-pub uncompleted_inside : (c : Config) (u : Sending) → All (IsInside c.geometry) (uncompleted c u)
+pub uncompleted_inside : (c : Config) (u : TxWork) → All (IsInside c.geometry) (uncompleted c u)
 uncompleted_inside c u =
     let made = packets-made c.geometry c.sg u.peeked in
     All-append (IsInside c.geometry) (joined (waiting c u)) (rest c.geometry c.sg u.peeked)
@@ -359,13 +359,13 @@ numbers_joined : (groups : List (List Item)) → numbers (joined groups) ≡ fla
 numbers_joined [] = refl
 numbers_joined (group ∷ groups) = numbers-append group (joined groups) ∙ ap (λ ns. numbers group ++ ns) (numbers_joined groups)
 
-pub kept_numbers : (c : Config) (u : Sending) → numbers (uncompleted c u) ≡ kept c u
+pub kept_numbers : (c : Config) (u : TxWork) → numbers (uncompleted c u) ≡ kept c u
 kept_numbers c u = numbers-append (joined (waiting c u)) (rest c.geometry c.sg u.peeked) ∙ ap (λ ns. ns ++ numbers (rest c.geometry c.sg u.peeked)) (numbers_joined (waiting c u))
 
 -- the items that are not completed are no more than the frames
-pub uncompleted_few : (c : Config) (s : ℕ) (mine : List Told) → IsWaiting c mine → length (uncompleted c (sending_of c s mine)) ≤ c.geometry.frames
+pub uncompleted_few : (c : Config) (s : ℕ) (mine : List Told) → IsWaiting c mine → length (uncompleted c (tx_work_of c s mine)) ≤ c.geometry.frames
 uncompleted_few c s mine h =
-    let u : Sending = sending_of c s mine in
+    let u : TxWork = tx_work_of c s mine in
     let lawful = all_uncompleted (IsItemOn c.geometry (Tx s)) c u (h.lawful s) in
     omega (
       arith,

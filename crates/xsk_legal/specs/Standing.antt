@@ -11,7 +11,7 @@ use Rattle.xsk_model.specs.Numbers.{times, numbers}
 use Rattle.xsk_model.specs.Rings.{place, places_of, consumer}
 use Rattle.xsk_model.specs.Object.{call_ring, submitted, taken}
 use Rattle.xsk_model.specs.Entry.{Told}
-use Rattle.xsk_model.specs.Own.{Sending, room_of, held_of, is_same, waiting, sending_of}
+use Rattle.xsk_model.specs.Own.{TxWork, room_of, held_of, is_same, waiting, tx_work_of}
 use Rattle.xsk_model.specs.History.{OwnGoesOn}
 use Rattle.xsk_model.specs.declared.call.Ring.{Ring}
 use Rattle.xsk_model.specs.declared.call.Ring.TheVariants.{Fill, Comp, Rx, Tx}
@@ -39,7 +39,7 @@ abbrev pub desc_of : Item → XdpDesc
 desc_of item = item.desc
 
 -- the items of the packets that wait, and those of the packet that is not at its end
-abbrev pub uncompleted : Config → Sending → List Item
+abbrev pub uncompleted : Config → TxWork → List Item
 uncompleted c sending = flat_map (λ (packet : List Item). packet) (waiting c sending) ++ rest c.geometry c.sg sending.peeked
 
 -- the next packet that waits begins with these frames
@@ -50,7 +50,7 @@ begins ns (packet ∷ later) = is_same ns (take (length ns) (numbers packet))
 -- how many items of the next packet of a TX ring were given back by the first items of a Submit
 abbrev pub given_back : Config → List Told → Ring → List Item → ℕ → ℕ
 given_back c mine (Fill d) done s = 0
-given_back c mine (Comp d) done s = if begins (numbers done) (waiting c (sending_of c s mine)) then length done else 0
+given_back c mine (Comp d) done s = if begins (numbers done) (waiting c (tx_work_of c s mine)) then length done else 0
 given_back c mine (Rx t) done s = 0
 given_back c mine (Tx t) done s = 0
 
@@ -83,8 +83,8 @@ pub record Keeps (c : Config) (kept : Noted) (mine queued : List Told) (back : �
   pub room : (r : Ring) → HasRing c r → (places_at kept (place c r)).room ≡ room_of r mine
   pub held : (r : Ring) → HasRing c r → (places_at kept (place c r)).held ≡ held_of r mine
   pub sources : (n : ℕ) → n < c.geometry.frames → source_at kept n ≡ source_of n mine
-  pub descs : (s : ℕ) → HasRing c (Tx s) → (queue_at kept s).descs ≡ drop (back s) (map desc_of (uncompleted c (sending_of c s queued)))
-  pub begun : (s : ℕ) → HasRing c (Tx s) → (queue_at kept s).begun ≡ length (rest c.geometry c.sg (sending_of c s queued).peeked)
+  pub descs : (s : ℕ) → HasRing c (Tx s) → (queue_at kept s).descs ≡ drop (back s) (map desc_of (uncompleted c (tx_work_of c s queued)))
+  pub begun : (s : ℕ) → HasRing c (Tx s) → (queue_at kept s).begun ≡ length (rest c.geometry c.sg (tx_work_of c s queued).peeked)
   pub marked : IsMarked c kept.who kept.marked mine
 
 abbrev pub none_back : ℕ → ℕ

@@ -17,7 +17,7 @@ use Rattle.xsk_legal.specs.Noted.{Noted}
 use Rattle.xsk_legal.specs.declared.why.Illegal.{Illegal}
 use Rattle.xsk_legal.specs.Why.{Fails}
 use Rattle.xsk_legal.specs.Standing.{StandsFor, IsPlacing, IsFetching}
-use Rattle.xsk_legal.specs.Noting.{IsFor, CanGrant, CanRelease, CanFetch, CanPlace}
+use Rattle.xsk_legal.specs.ItemNotes.{IsFor, CanGrant, CanRelease, CanFetch, CanPlace}
 
 -- whether a standing notes what a mark was found to be
 abbrev pub is_watched : Mark → Bool

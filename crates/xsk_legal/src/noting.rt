@@ -8,7 +8,7 @@ ghost use Rattle.xsk_model.specs.History.{MayGive, Fits};
 ghost use Rattle.xsk_model.specs.declared.call.Call.TheVariants.{Submit, Peek, Swap, Look};
 ghost use Rattle.xsk_model.specs.declared.call.Reply.TheVariants.{Submitted, Items, Old};
 ghost use Rattle.xsk_legal.specs.Given.{StandsGiven};
-ghost use Rattle.xsk_legal.specs.Noting.{IsFor};
+ghost use Rattle.xsk_legal.specs.ItemNotes.{IsFor};
 ghost use Rattle.xsk_legal.specs.Standing.{StandsFor};
 
 use crate::Standing;

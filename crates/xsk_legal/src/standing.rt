@@ -18,7 +18,7 @@ ghost use Rattle.xsk_model.specs.declared.call.Ring.TheVariants.{Comp, Rx, Tx};
 ghost use Rattle.xsk_model.specs.declared.call.Call.TheVariants.{Reserve, Submit, Peek, Release, Swap, Look};
 ghost use Rattle.xsk_model.specs.declared.call.Reply.TheVariants.{Granted, Submitted, Items, Released, Old};
 ghost use Rattle.xsk_legal.specs.Standing.{StandsFor, IsPlacing, IsFetching, IsFresh, places_at, no_queue, with_places};
-ghost use Rattle.xsk_legal.specs.Noting.{one_filled, one_held, sources_with, queues_with, queues_without, HasRoom, HasGiven, IsFor, CanGrant, CanRelease, CanFetch, CanPlace};
+ghost use Rattle.xsk_legal.specs.ItemNotes.{one_filled, one_held, sources_with, queues_with, queues_without, HasRoom, HasGiven, IsFor, CanGrant, CanRelease, CanFetch, CanPlace};
 ghost use Rattle.xsk_legal.specs.Setting.{MaySet, IsTime, IsOpen, AreCleared};
 ghost use Rattle.xsk_legal.specs.Pieces.{MaySubmit, MayPlace, has, item_source, IsFill, IsPiece, ArePieces, GivesBack};
 

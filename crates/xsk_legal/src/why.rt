@@ -8,7 +8,7 @@ ghost use Rattle.xsk_model.specs.Legal.{IsLegal};
 ghost use Rattle.xsk_model.specs.Numbers.{times};
 ghost use Rattle.xsk_model.specs.Own.{room_of, held_of, had_of};
 ghost use Rattle.xsk_model.specs.declared.call.Call.TheVariants.{Reserve, Submit, Peek, Release, Swap, Look};
-ghost use Rattle.xsk_legal.specs.Noting.{IsFor};
+ghost use Rattle.xsk_legal.specs.ItemNotes.{IsFor};
 ghost use Rattle.xsk_legal.specs.Standing.{StandsFor, places_at};
 ghost use Rattle.xsk_model.specs.Rings.{place, producer};
 ghost use Rattle.xsk_legal.specs.Why.{Fails};

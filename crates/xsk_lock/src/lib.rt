@@ -17,4 +17,4 @@ mod view;
 
 pub use hand::Hand;
 pub use lock::{Lock, Refused};
-pub use view::{Dealing, Facts, Joining, Key, Known, Law, Locking, Named, Unlocking};
+pub use view::{Facts, HandJoin, HandSplit, Key, Known, Law, LockStep, Named, UnlockStep};

@@ -9,7 +9,7 @@ ghost use Rattle.xsk_lock.specs.Rule.{newcomer, mine, found};
 ghost use Rattle.xsk_lock.specs.Held.{Belongs, HasAll, IsOff, IsOn, new_hands};
 
 use crate::hand::Hand;
-use crate::view::{Dealing, Joining, Key, Known, Law, Locking, Named, Unlocking};
+use crate::view::{HandJoin, HandSplit, Key, Known, Law, LockStep, Named, UnlockStep};
 use atomic_table::{Seat, Shared, Table};
 use std::alloc::Global;
 use std::marker::Model;
@@ -56,7 +56,7 @@ fn deal<T: Named>(
     let mut row = row;
     for first in 0..hands - 1 {
         row.push_reserved(Hand {
-            seat: table.split_seat::<Dealing>(&mut seat),
+            seat: table.split_seat::<HandSplit>(&mut seat),
         });
     }
     row.push_reserved(Hand { seat });
@@ -113,7 +113,7 @@ impl<T: Named> Lock<T> {
         ensures held { MatchOption result (IsOff hand.new) (λ x. IsOn hand.new × (T.name x ≡ self.now.name)) }
         ensures elsewhere { (v : Knowledge T.Name) → hand.old.view ≡ Sees v → IsNone result → HeldElsewhere T.name v }
     {
-        if self.table.shared.swap::<Locking<T>>(&mut hand.seat, 0, 1) == 0 {
+        if self.table.shared.swap::<LockStep<T>>(&mut hand.seat, 0, 1) == 0 {
             self.table.shared.exchange(&mut hand.seat, 0, None)
         } else {
             None
@@ -133,7 +133,7 @@ impl<T: Named> Lock<T> {
     {
         let left = self.table.shared.exchange(&mut hand.seat, 0, Some(value));
         let None = left else { unreachable!() };
-        self.table.shared.store::<Unlocking>(&mut hand.seat, 0, 0);
+        self.table.shared.store::<UnlockStep>(&mut hand.seat, 0, 0);
     }
 
     /// Gives a hand the numbers of another, which is gone then. Both must be hands of this lock that don't hold the value.
@@ -146,7 +146,9 @@ impl<T: Named> Lock<T> {
         ensures found { found hand.new.view ≡ found hand.old.view }
     {
         let Hand { seat } = other;
-        self.table.shared.join_seat::<Joining>(&mut hand.seat, seat);
+        self.table
+            .shared
+            .join_seat::<HandJoin>(&mut hand.seat, seat);
     }
 
     /// Ends the lock, and gives the value. The hand must be one of this lock that doesn't hold the value, and must have been

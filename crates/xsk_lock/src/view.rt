@@ -59,29 +59,29 @@ impl<T: Named> TableRule<Option<T>, Known<T::Name>, Key<T>> for Law<T> {
 }
 
 /// The swap of the word to 1, which takes the slot where it found 0.
-pub struct Locking<T> {
+pub struct LockStep<T> {
     marker: PhantomData<T>,
 }
 
-impl<T: Named> Play<Option<T>, Known<T::Name>> for Locking<T> {
+impl<T: Named> Play<Option<T>, Known<T::Name>> for LockStep<T> {
     ghost use Rattle.xsk_lock.specs.Plays.{locks};
 
     ghost then = { locks T.name };
 }
 
 /// The store of 0, which gives the slot home.
-pub struct Unlocking;
+pub struct UnlockStep;
 
-impl<T, N> Play<Option<T>, Known<N>> for Unlocking {
+impl<T, N> Play<Option<T>, Known<N>> for UnlockStep {
     ghost use Rattle.xsk_lock.specs.Plays.{unlocks};
 
     ghost then = { unlocks };
 }
 
 /// The first hand's number goes to a seat of its own.
-pub struct Dealing;
+pub struct HandSplit;
 
-impl<N> Split<Known<N>> for Dealing {
+impl<N> Split<Known<N>> for HandSplit {
     ghost use Rattle.xsk_lock.specs.Rule.{first_hand, other_hands};
 
     ghost left = { other_hands };
@@ -90,9 +90,9 @@ impl<N> Split<Known<N>> for Dealing {
 }
 
 /// A seat gets the hands' numbers of another.
-pub struct Joining;
+pub struct HandJoin;
 
-impl<N> Join<Known<N>> for Joining {
+impl<N> Join<Known<N>> for HandJoin {
     ghost use Rattle.xsk_lock.specs.declared.view.Known.TheVariants.{Spent};
     ghost use Rattle.xsk_lock.specs.Rule.{both_hands};
 

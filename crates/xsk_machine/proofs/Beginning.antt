@@ -14,7 +14,7 @@ use Rattle.xsk_model.proofs.Seats.{is_at}
 use Rattle.xsk_turns.proofs.Places.{port_within, queue_known}
 use Rattle.xsk_driver.specs.Stands.{packet_at}
 use Rattle.xsk_driver.specs.Asking.{packets_by, verdicts_in}
-use Rattle.xsk_driver.specs.Sent.{Sends}
+use Rattle.xsk_driver.specs.SentRoom.{Sends}
 use Rattle.xsk_driver.proofs.Bouncing.{bouncing_few, bouncing_bytes}
 use Rattle.xsk_driver.proofs.Numbers.{numbers_known, packets_by_number}
 use Rattle.xsk_laws.proofs.Places.{are_paired}
@@ -24,7 +24,7 @@ use Rattle.xsk_driver.specs.Runs.{IsNew as IsNewDriver}
 use Rattle.xsk_app.specs.Shown.{Shown as AppShown}
 use Rattle.xsk_app.specs.Runs.{IsNew as IsNewApp}
 use Rattle.xsk_prog.specs.declared.rule.Verdict.{Verdict}
-use Rattle.xsk_turns.specs.Sending.{bouncing}
+use Rattle.xsk_turns.specs.SentWith.{bouncing}
 use Rattle.xsk_turns.specs.Turns.{Judged}
 use Rattle.xsk_turns.specs.Verdicts.{judged, EachHas}
 use Rattle.xsk_turns.specs.Workers.{Setting, input_of, packets_to}

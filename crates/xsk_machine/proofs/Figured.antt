@@ -3,18 +3,18 @@ use Rattle.std.proofs.Common.{◌≡◌, ◌∙◌, ap, ℕ, ◌<◌, ◌≤◌,
 use Rattle.std.proofs.lemmas.Bool.Decides.{nat_tests}
 use Rattle.xsk_model.specs.Config.{Config, classes_of}
 use Rattle.xsk_model.specs.Entry.{Told}
-use Rattle.xsk_turns.specs.Counted.{capped, IsCounted}
+use Rattle.xsk_turns.specs.Statistics.{capped, IsCounted}
 use Rattle.xsk_turns.specs.Disposals.{attempts_of, disposals_of}
 use Rattle.xsk_turns.specs.Stranded.{stranded_in}
 use Rattle.xsk_driver.proofs.Stranding.{ended_stranded}
-use Rattle.xsk_turns.specs.Disposes.{HasDisposedAll}
+use Rattle.xsk_turns.specs.KeptDisposals.{HasDisposedAll}
 use Rattle.xsk_turns.specs.Turns.{seat_of}
 use Rattle.xsk_turns.specs.declared.disposal.Disposal.{Disposal}
 use Rattle.xsk_turns.specs.declared.disposal.DriverCounters.{DriverCounters}
 use Rattle.xsk_turns.proofs.Counting.{keeps_counters_at_end}
 use Rattle.xsk_turns.proofs.Disposing.{disposes_all}
 use Rattle.xsk_machine.specs.Figures.{counter_to, counters_to, figures_by, figures_in}
-use Rattle.xsk_machine.specs.Figured.{by_class, counters_of, FiguresAtEnd}
+use Rattle.xsk_machine.specs.HistoryFigures.{by_class, counters_of, FiguresAtEnd}
 use Rattle.xsk_machine.specs.declared.figures.DriverFigures.{DriverFigures}
 use Rattle.xsk_driver.specs.Shown.{Shown}
 

@@ -9,11 +9,11 @@ use Rattle.xsk_model.specs.Sent.{sockets_of, all_sent_from, all_sent}
 use Rattle.xsk_model.specs.Steering.{paired_port}
 use Rattle.xsk_model.specs.declared.call.Act.{Act}
 use Rattle.xsk_model.specs.declared.call.Act.TheVariants.{Call as Calls, Ended as IsEnd}
-use Rattle.xsk_turns.specs.Sending.{bouncing}
+use Rattle.xsk_turns.specs.SentWith.{bouncing}
 use Rattle.xsk_turns.specs.Workers.{Setting, input_of, IsWorkerRun, IsWholeRun}
 use Rattle.xsk_laws.specs.Expected.{received}
 use Rattle.xsk_umem.specs.PacketList.{PacketList}
-use Rattle.xsk_driver.specs.Sent.{IsShort, sent_gaps}
+use Rattle.xsk_driver.specs.SentRoom.{IsShort, sent_gaps}
 use Rattle.xsk_driver.specs.Shown.{Shown as DriverShown}
 use Rattle.xsk_driver.specs.Runs.{IsNew as IsNewDriver, StandsWith}
 use Rattle.xsk_app.specs.Shown.{Shown as AppShown}

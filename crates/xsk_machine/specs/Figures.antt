@@ -1,7 +1,7 @@
 -- The figures of a driver: how many of its packets have each kind of disposal. That the kinds stand in the order in which
 -- the disposals are declared, and that no number goes beyond 2 ^ 64 - 1, is this project's own.
 use Rattle.std.specs.Prelude.{◌≡◌, ℕ, ◌==◌, nat_lt, if◌then◌else◌, List, [], ◌∷◌, length, map, count_by, sum}
-use Rattle.xsk_turns.specs.Counted.{capped}
+use Rattle.xsk_turns.specs.Statistics.{capped}
 use Rattle.xsk_turns.specs.Stranded.{stranded_in}
 use Rattle.xsk_turns.specs.declared.disposal.Disposal.{Disposal}
 use Rattle.xsk_turns.specs.declared.disposal.Disposal.TheVariants.{Delivered, NoFrames, RxFull, TooLong, Runt, Missed, Passed, Dropped, Bounced}

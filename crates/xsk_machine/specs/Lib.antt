@@ -1,6 +1,6 @@
 pub mod Acts
 pub mod Amounts
-pub mod Figured
+pub mod HistoryFigures
 pub mod Figures
 pub mod Sent
 pub mod Workers

@@ -1,7 +1,7 @@
 //! The figures of a run: what became of each driver's packets, and its counters.
 ghost use Rattle.std.specs.Prelude.{◌≡◌, ◌<◌, ◌^◌, if◌then◌else◌, List, [], ◌∷◌, ◌++◌, OnErr, OnOk, Some, length, slice_get, sum};
 ghost use Rattle.xsk_machine.specs.Figures.{KindsAddUp, counter_to, counters_to, figures_by, figures_in, kind_of as kind_by, kinds_of};
-ghost use Rattle.xsk_machine.specs.Figured.{FiguresAtEnd};
+ghost use Rattle.xsk_machine.specs.HistoryFigures.{FiguresAtEnd};
 ghost use Rattle.xsk_turns.specs.declared.disposal.Disposal.{Disposal as ADisposal};
 
 use std::alloc::Global;

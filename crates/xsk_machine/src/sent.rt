@@ -4,7 +4,7 @@ ghost use Rattle.std.specs.Borrow.{sem};
 ghost use Rattle.std.specs.Io.BufRead.{Rests};
 ghost use Rattle.std.specs.List.{slice_index_or};
 ghost use Rattle.xsk_umem.specs.Span.{laid_from};
-ghost use Rattle.xsk_driver.specs.Sent.{IsShort, sent_gaps};
+ghost use Rattle.xsk_driver.specs.SentRoom.{IsShort, sent_gaps};
 ghost use Rattle.xsk_machine.specs.Acts.{HasSentGaps, HasShortPackets, packets_in};
 ghost use Rattle.xsk_machine.specs.contracts.sent.Sent.{the_row};
 

@@ -14,7 +14,7 @@ use Rattle.xsk_model.specs.Numbers.{times, number_of, numbers, without}
 use Rattle.xsk_model.specs.Rings.{is_ring, port_of}
 use Rattle.xsk_model.specs.Object.{submitted, taken}
 use Rattle.xsk_model.specs.Entry.{Told}
-use Rattle.xsk_model.specs.Own.{had_step, had_of, is_fill_peek, fill_step, is_from_fill, is_on, part_of, granted, released, room_step, held_step, room_of, held_of, Sending, waiting, is_same, completed_by, sending_after, sending_step, sending_of}
+use Rattle.xsk_model.specs.Own.{had_step, had_of, is_fill_peek, fill_step, is_from_fill, is_on, part_of, granted, released, room_step, held_step, room_of, held_of, TxWork, waiting, is_same, completed_by, tx_work_after, tx_work_step, tx_work_of}
 use Rattle.xsk_model.specs.Marks.{is_mark}
 use Rattle.xsk_model.specs.Swaps.{set_after, set_step, last_set, number_in, seen_after, seen_step, last_seen, IsTimely, IsFed, MayFeed}
 use Rattle.xsk_model.specs.Legal.{HasRole, IsCounted, HasFrames, ArePackets, AreReceived, AreCompleted, IsLegal}
@@ -250,10 +250,10 @@ module _ (g : Geometry) (sg : Bool) where
 
 -- ---- what a driver has done with a TX ring
 
-bare_sending : Sending → Sending
+bare_sending : TxWork → TxWork
 bare_sending u = record { peeked = bare_items u.peeked; completed = u.completed }
 
-waiting-bare : (c : Config) (u : Sending) → waiting c (bare_sending u) ≡ map bare_items (waiting c u)
+waiting-bare : (c : Config) (u : TxWork) → waiting c (bare_sending u) ≡ map bare_items (waiting c u)
 unfolding bare_sending
 waiting-bare c u =
     ap (λ ps. drop u.completed (whole_packets ps)) (packets-bare c.geometry c.sg [] u.peeked)
@@ -271,15 +271,15 @@ completed-bare items (packet ∷ later) =
     ∙ ap (λ ns. length (cond (is_same (numbers items) ns) (bare_items packet ∷ []) [])) (numbers-bare packet)
     ∙ length-cond (is_same (numbers items) (numbers packet)) (bare_items packet) packet
 
-peek-bare : (b : Bool) (u : Sending) (items other : List Item) → other ≡ bare_items items
+peek-bare : (b : Bool) (u : TxWork) (items other : List Item) → other ≡ bare_items items
     → cond b (record (bare_sending u) { peeked = (bare_sending u).peeked ++ other }) (bare_sending u) ≡ bare_sending (cond b (record u { peeked = u.peeked ++ items }) u)
 unfolding bare_sending
 peek-bare true u items other h =
     ap (λ (xs : List Item). record (bare_sending u) { peeked = xs }) (ap (λ xs. bare_items u.peeked ++ xs) h ∙ sym (map-append bare_item u.peeked items))
 peek-bare false u items other h = refl
 
-step-bare : (c : Config) (s : ℕ) (u : Sending) (call : Call) (reply : Reply)
-    → sending_after c s (bare_sending u) (bare_call call) (bare_reply reply) ≡ bare_sending (sending_after c s u call reply)
+step-bare : (c : Config) (s : ℕ) (u : TxWork) (call : Call) (reply : Reply)
+    → tx_work_after c s (bare_sending u) (bare_call call) (bare_reply reply) ≡ bare_sending (tx_work_after c s u call reply)
 unfolding bare_sending
 step-bare c s u (Reserve r n) reply = refl
 step-bare c s u (Submit (Fill d) items) reply = refl
@@ -293,14 +293,14 @@ step-bare c s u (Release r n) reply = refl
 step-bare c s u (Swap m value) reply = refl
 step-bare c s u (Look m) reply = refl
 
-all_steps-bare : (c : Config) (s : ℕ) (u : Sending) (mine : List Told) → fold (sending_step c s) (bare_sending u) (map bare mine) ≡ bare_sending (fold (sending_step c s) u mine)
+all_steps-bare : (c : Config) (s : ℕ) (u : TxWork) (mine : List Told) → fold (tx_work_step c s) (bare_sending u) (map bare mine) ≡ bare_sending (fold (tx_work_step c s) u mine)
 all_steps-bare c s u [] = refl
 all_steps-bare c s u (t ∷ mine) =
-    ap (λ v. fold (sending_step c s) v (map bare mine)) (step-bare c s u t.call t.reply) ∙ all_steps-bare c s (sending_step c s u t) mine
+    ap (λ v. fold (tx_work_step c s) v (map bare mine)) (step-bare c s u t.call t.reply) ∙ all_steps-bare c s (tx_work_step c s u t) mine
 
-waits-bare : (c : Config) (s : ℕ) (mine : List Told) → waiting c (sending_of c s (map bare mine)) ≡ map bare_items (waiting c (sending_of c s mine))
+waits-bare : (c : Config) (s : ℕ) (mine : List Told) → waiting c (tx_work_of c s (map bare mine)) ≡ map bare_items (waiting c (tx_work_of c s mine))
 unfolding bare_sending
-waits-bare c s mine = ap (waiting c) (all_steps-bare c s (record { peeked = []; completed = 0 }) mine) ∙ waiting-bare c (sending_of c s mine)
+waits-bare c s mine = ap (waiting c) (all_steps-bare c s (record { peeked = []; completed = 0 }) mine) ∙ waiting-bare c (tx_work_of c s mine)
 
 -- ---- legality
 
@@ -375,11 +375,11 @@ module _ (c : Config) (mine other : List Told) (e : map bare mine ≡ map bare o
     from_fill = λ n some. subst IsTrue (alike (is_from_fill n) (fill-bare n) mine other e) (h.from_fill n some);
   }
 
-  same_waits : (s : ℕ) → map bare_items (waiting c (sending_of c s mine)) ≡ map bare_items (waiting c (sending_of c s other))
-  same_waits s = sym (waits-bare c s mine) ∙ ap (λ l. waiting c (sending_of c s l)) e ∙ waits-bare c s other
+  same_waits : (s : ℕ) → map bare_items (waiting c (tx_work_of c s mine)) ≡ map bare_items (waiting c (tx_work_of c s other))
+  same_waits s = sym (waits-bare c s mine) ∙ ap (λ l. waiting c (tx_work_of c s l)) e ∙ waits-bare c s other
 
   -- the packet that waits there too
-  completed_there : (r : Ring) (items : List Item) (h : AreCompleted c mine r items) (ws : List (List Item)) → ws ≡ waiting c (sending_of c h.socket other)
+  completed_there : (r : Ring) (items : List Item) (h : AreCompleted c mine r items) (ws : List (List Item)) → ws ≡ waiting c (tx_work_of c h.socket other)
       → bare_items h.packet ∷ map bare_items h.later ≡ map bare_items ws → AreCompleted c other r items
   completed_there r items h [] is waits = absurd (cc)
   completed_there r items h (packet ∷ later) is waits =
@@ -398,7 +398,7 @@ module _ (c : Config) (mine other : List Told) (e : map bare mine ≡ map bare o
 
   same_completed : (r : Ring) (items : List Item) → AreCompleted c mine r items → AreCompleted c other r items
   same_completed r items h =
-      completed_there r items h (waiting c (sending_of c h.socket other)) refl (sym (ap (map bare_items) h.next) ∙ same_waits h.socket)
+      completed_there r items h (waiting c (tx_work_of c h.socket other)) refl (sym (ap (map bare_items) h.next) ∙ same_waits h.socket)
 
   pub same_packets : (call : Call) → ArePackets c mine call → ArePackets c other call
   same_packets (Reserve r n) h = h

@@ -18,7 +18,7 @@ use Rattle.xsk_model.specs.Numbers.{times, without, number_of, numbers}
 use Rattle.xsk_model.specs.Rings.{is_ring}
 use Rattle.xsk_model.specs.Object.{submitted, taken}
 use Rattle.xsk_model.specs.Entry.{Told}
-use Rattle.xsk_model.specs.Own.{Sending, had_of, is_fill_peek, fill_step, is_from_fill, is_same, waiting, completed_by, sending_after, sending_of}
+use Rattle.xsk_model.specs.Own.{TxWork, had_of, is_fill_peek, fill_step, is_from_fill, is_same, waiting, completed_by, tx_work_after, tx_work_of}
 use Rattle.xsk_model.specs.Legal.{IsLegal, IsItemOn, AreCompleted}
 use Rattle.xsk_model.specs.History.{Fits, OwnGoesOn}
 use Rattle.xsk_model.specs.Sent.{sockets_from, sockets_of, completed_in}
@@ -33,12 +33,12 @@ use Rattle.xsk_model.proofs.PacketsLaws.{packets_from-append, packets-items, pac
 use Rattle.xsk_model.proofs.Counting.{times-append, times-without, numbers-append}
 use Rattle.xsk_model.proofs.Folds.{had_of-push}
 use Rattle.xsk_model.proofs.OwnRuns.{own_all, fits_taken}
-use Rattle.xsk_model.proofs.Sendings.{wholes, wholes-append, sending_of-push, completed_by-front, IsWithin, within-push}
+use Rattle.xsk_model.proofs.Sendings.{wholes, wholes-append, tx_work_of-push, completed_by-front, IsWithin, within-push}
 
 -- ---- the frames of one TX ring that are not yet completed
 
 -- those of the Whole packets that wait, and those of the packet that isn't at its end
-abbrev pub kept : Config → Sending → List ℕ
+abbrev pub kept : Config → TxWork → List ℕ
 kept c u = flat_map numbers (waiting c u) ++ numbers (rest c.geometry c.sg u.peeked)
 
 -- Whole packets have no more frames than all packets
@@ -66,7 +66,7 @@ times-packets n c xs =
     ∙ ap (λ items. times n (numbers items)) (packets-items c.geometry c.sg xs)
 
 -- items that are peeked bring no frames but their own
-pub kept-peek : (n : ℕ) (c : Config) (u : Sending) (items : List Item) → u.completed ≤ length (wholes c u)
+pub kept-peek : (n : ℕ) (c : Config) (u : TxWork) (items : List Item) → u.completed ≤ length (wholes c u)
     → times n (kept c (record u { peeked = u.peeked ++ items })) ≤ times n (kept c u) + times n (numbers items)
 kept-peek n c u items h =
     let before : List Packet = packets c.geometry c.sg u.peeked in
@@ -94,7 +94,7 @@ kept-peek n c u items h =
     )
 
 -- what is completed takes its frames away
-pub kept-comp : (n : ℕ) (c : Config) (u : Sending) (items : List Item)
+pub kept-comp : (n : ℕ) (c : Config) (u : TxWork) (items : List Item)
     → times n (kept c (record u { completed = u.completed + length (completed_by items (waiting c u)) })) + times n (flat_map numbers (completed_by items (waiting c u))) ≡ times n (kept c u)
 kept-comp n c u items =
     let done : List (List Item) = completed_by items (waiting c u) in
@@ -116,36 +116,36 @@ kept-comp n c u items =
 
 abbrev pub total : Config → List ℕ → List Told → ℕ → ℕ
 total c [] mine n = 0
-total c (s ∷ sockets) mine n = times n (kept c (sending_of c s mine)) + total c sockets mine n
+total c (s ∷ sockets) mine n = times n (kept c (tx_work_of c s mine)) + total c sockets mine n
 
 total-quiet : (n : ℕ) (c : Config) (sockets : List ℕ) (mine : List Told) (t : Told)
-    → ((s : ℕ) → sending_after c s (sending_of c s mine) t.call t.reply ≡ sending_of c s mine) → total c sockets (mine ++ t ∷ []) n ≡ total c sockets mine n
+    → ((s : ℕ) → tx_work_after c s (tx_work_of c s mine) t.call t.reply ≡ tx_work_of c s mine) → total c sockets (mine ++ t ∷ []) n ≡ total c sockets mine n
 total-quiet n c [] mine t h = refl
 total-quiet n c (s ∷ sockets) mine t h =
-    omega (arith, total-quiet n c sockets mine t h, ap (λ u. times n (kept c u)) (sending_of-push c s mine t ∙ h s))
+    omega (arith, total-quiet n c sockets mine t h, ap (λ u. times n (kept c u)) (tx_work_of-push c s mine t ∙ h s))
 
 total-comp : (n : ℕ) (c : Config) (sockets : List ℕ) (mine : List Told) (d : ℕ) (items : List Item) (reply : Reply)
     → total c sockets (mine ++ (record { call = Submit (Comp d) items; reply = reply }) ∷ []) n + times n (flat_map numbers (completed_in c sockets mine (Submit (Comp d) items)))
     ≡ total c sockets mine n
 total-comp n c [] mine d items reply = omega arith
 total-comp n c (s ∷ sockets) mine d items reply =
-    let done : List (List Item) = completed_by items (waiting c (sending_of c s mine)) in
+    let done : List (List Item) = completed_by items (waiting c (tx_work_of c s mine)) in
     let others : List (List Item) = completed_in c sockets mine (Submit (Comp d) items) in
     omega (
       arith,
       total-comp n c sockets mine d items reply,
-      kept-comp n c (sending_of c s mine) items,
-      ap (λ u. times n (kept c u)) (sending_of-push c s mine (record { call = Submit (Comp d) items; reply = reply })),
+      kept-comp n c (tx_work_of c s mine) items,
+      ap (λ u. times n (kept c u)) (tx_work_of-push c s mine (record { call = Submit (Comp d) items; reply = reply })),
       ap (times n) (flat_map-append numbers done others),
       times-append n (flat_map numbers done) (flat_map numbers others),
     )
 
 peeked_at : (c : Config) (s k : ℕ) (mine : List Told) (socket : ℕ) (reply : Reply) (b : Bool) → is_ring (Tx s) (Tx socket) ≡ b
-    → sending_of c s (mine ++ (record { call = Peek (Tx socket) k; reply = reply }) ∷ [])
-    ≡ cond b (record (sending_of c s mine) { peeked = (sending_of c s mine).peeked ++ taken reply }) (sending_of c s mine)
+    → tx_work_of c s (mine ++ (record { call = Peek (Tx socket) k; reply = reply }) ∷ [])
+    ≡ cond b (record (tx_work_of c s mine) { peeked = (tx_work_of c s mine).peeked ++ taken reply }) (tx_work_of c s mine)
 peeked_at c s k mine socket reply b e =
-    sending_of-push c s mine (record { call = Peek (Tx socket) k; reply = reply })
-    ∙ ap (λ x. cond x (record (sending_of c s mine) { peeked = (sending_of c s mine).peeked ++ taken reply }) (sending_of c s mine)) e
+    tx_work_of-push c s mine (record { call = Peek (Tx socket) k; reply = reply })
+    ∙ ap (λ x. cond x (record (tx_work_of c s mine) { peeked = (tx_work_of c s mine).peeked ++ taken reply }) (tx_work_of c s mine)) e
 
 here : (s : ℕ) (sockets : List ℕ) (socket : ℕ) → s ≡ socket → times socket (s ∷ sockets) ≡ 1 + times socket sockets
 here s sockets socket e = ap (λ b. cond b 1 0 + times socket sockets) (eq-eqb s socket e)
@@ -176,7 +176,7 @@ module _ (n : ℕ) (c : Config) (mine : List Told) (socket k : ℕ) (reply : Rep
         arith,
         total-peek_none sockets (omega (arith, h, here s sockets socket e)),
         ap (λ u. times n (kept c u)) (peeked_at c s k mine socket reply true (eq-eqb s socket e)),
-        kept-peek n c (sending_of c s mine) (taken reply) (within s),
+        kept-peek n c (tx_work_of c s mine) (taken reply) (within s),
       ))
       (λ (e : s ≡ socket → ⊥).
       omega (
@@ -265,7 +265,7 @@ once-push c mine t fits once n = elim (fits_taken c mine t.call t.reply fits) [
 
 -- a call that brings and completes nothing, and submits frames from FILL alone
 quiet : (c : Config) (d : ℕ) (mine : List Told) (t : Told) → Fits c mine t.call t.reply → taken t.reply ≡ []
-    → ((s : ℕ) → sending_after c s (sending_of c s mine) t.call t.reply ≡ sending_of c s mine)
+    → ((s : ℕ) → tx_work_after c s (tx_work_of c s mine) t.call t.reply ≡ tx_work_of c s mine)
     → ((n : ℕ) → 1 ≤ times n (numbers (submitted t.call)) → is_from_fill n mine ≡ true) → IsKept c d mine → IsKept c d (mine ++ t ∷ [])
 quiet c d mine t fits none still from h = record {
   once = once-push c mine t fits h.once;
@@ -291,8 +291,8 @@ peek_other : (c : Config) (d : ℕ) (mine : List Told) (r : Ring) (k : ℕ) (rep
     → ((s : ℕ) → is_ring (Tx s) r ≡ false) → IsKept c d mine → IsKept c d (mine ++ (record { call = Peek r k; reply = reply }) ∷ [])
 peek_other c d mine r k reply fits off h =
     let t : Told = record { call = Peek r k; reply = reply } in
-    let still : (s : ℕ) → sending_after c s (sending_of c s mine) (Peek r k) reply ≡ sending_of c s mine =
-    λ s. ap (λ b. cond b (record (sending_of c s mine) { peeked = (sending_of c s mine).peeked ++ taken reply }) (sending_of c s mine)) (off s) in
+    let still : (s : ℕ) → tx_work_after c s (tx_work_of c s mine) (Peek r k) reply ≡ tx_work_of c s mine =
+    λ s. ap (λ b. cond b (record (tx_work_of c s mine) { peeked = (tx_work_of c s mine).peeked ++ taken reply }) (tx_work_of c s mine)) (off s) in
     record {
       once = once-push c mine t fits h.once;
       within = λ s. within-push c s mine t (h.within s);
@@ -366,13 +366,13 @@ done_in : (n : ℕ) (c : Config) (sockets : List ℕ) (mine : List Told) (d : �
     → times n (flat_map numbers (completed_in c sockets mine (Submit (Comp d) items))) ≡ length (completed_in c sockets mine (Submit (Comp d) items)) * times n (numbers items)
 done_in n c [] mine d items = omega arith
 done_in n c (s ∷ sockets) mine d items =
-    let done : List (List Item) = completed_by items (waiting c (sending_of c s mine)) in
+    let done : List (List Item) = completed_by items (waiting c (tx_work_of c s mine)) in
     let others : List (List Item) = completed_in c sockets mine (Submit (Comp d) items) in
     let len = ap (λ k. k * times n (numbers items)) (length-append done others) ∙ add-mul (length done) (length others) (times n (numbers items)) in
     omega (
       arith,
       len,
-      done_by n items (waiting c (sending_of c s mine)),
+      done_by n items (waiting c (tx_work_of c s mine)),
       done_in n c sockets mine d items,
       ap (times n) (flat_map-append numbers done others),
       times-append n (flat_map numbers done) (flat_map numbers others),
@@ -389,11 +389,11 @@ done_here items packet later waits e h =
 done_some : (c : Config) (d : ℕ) (mine : List Told) (items : List Item) → AreCompleted c mine (Comp d) items
     → 1 ≤ length (completed_in c (sockets_of c d) mine (Submit (Comp d) items))
 done_some c d mine items h =
-    let here = done_here items h.packet h.later (waiting c (sending_of c h.socket mine)) h.next h.frames in
-    let part = part_of_sockets (λ s. completed_by items (waiting c (sending_of c s mine))) 0 h.socket c.sockets (pair_at c.pairs d).port (pair_at c.pairs d).queue
+    let here = done_here items h.packet h.later (waiting c (tx_work_of c h.socket mine)) h.next h.frames in
+    let part = part_of_sockets (λ s. completed_by items (waiting c (tx_work_of c s mine))) 0 h.socket c.sockets (pair_at c.pairs d).port (pair_at c.pairs d).queue
     (record { port = 0; queue = 0; rx = None; tx = None }) h.tx.0 h.port h.queue in
     let zero_add : 0 + h.socket ≡ h.socket = omega arith in
-    omega (arith, here, part, ap (λ s. length (completed_by items (waiting c (sending_of c s mine)))) zero_add)
+    omega (arith, here, part, ap (λ s. length (completed_by items (waiting c (tx_work_of c s mine)))) zero_add)
 
 submit_comp : (c : Config) (d : ℕ) (mine : List Told) (items : List Item) (reply : Reply) → Fits c mine (Submit (Comp d) items) reply → taken reply ≡ []
     → AreCompleted c mine (Comp d) items → IsKept c d mine → IsKept c d (mine ++ (record { call = Submit (Comp d) items; reply = reply }) ∷ [])
@@ -467,7 +467,7 @@ whole_of_packets c (whole items ∷ ps) h =
     (whole_of_packets c ps (All-tail (IsPacket c.geometry c.sg) (whole items) ps h))
 whole_of_packets c (bad items ∷ ps) h = whole_of_packets c ps (All-tail (IsPacket c.geometry c.sg) (bad items) ps h)
 
-pub waiting_whole : (c : Config) (u : Sending) (packet : List Item) (later : List (List Item)) → waiting c u ≡ packet ∷ later → IsWhole c.geometry c.sg packet
+pub waiting_whole : (c : Config) (u : TxWork) (packet : List Item) (later : List (List Item)) → waiting c u ≡ packet ∷ later → IsWhole c.geometry c.sg packet
 waiting_whole c u packet later e =
     let all = whole_of_packets c (packets c.geometry c.sg u.peeked) (packets-made c.geometry c.sg u.peeked).0 in
     All-head (IsWhole c.geometry c.sg) packet later (subst (λ ws. All (IsWhole c.geometry c.sg) ws) e (All-drop (IsWhole c.geometry c.sg) u.completed (wholes c u) all))
@@ -523,7 +523,7 @@ pub one_completion : (c : Config) (d : ℕ) (mine : List Told) (items : List Ite
 one_completion c d mine items goes legal =
     let completed : AreCompleted c mine (Comp d) items = legal.packets in
     let kept : IsKept c d mine = own_kept c d legal.known mine goes in
-    let packet_whole = waiting_whole c (sending_of c completed.socket mine) completed.packet completed.later completed.next in
+    let packet_whole = waiting_whole c (tx_work_of c completed.socket mine) completed.packet completed.later completed.next in
     let frame : (n : ℕ) × (1 ≤ times n (numbers items)) = completed_frame c d items completed.packet legal.items packet_whole completed.addresses in
     let most = mul-le-mul_left (length (completed_in c (sockets_of c d) mine (Submit (Comp d) items))) frame.1 in
     omega (

@@ -11,7 +11,7 @@ use Rattle.xsk_model.specs.Packets.{packets, whole_packets, bytes_of}
 use Rattle.xsk_model.specs.Numbers.{times, numbers}
 use Rattle.xsk_model.specs.Object.{taken}
 use Rattle.xsk_model.specs.Entry.{Told, Entry, own}
-use Rattle.xsk_model.specs.Own.{is_fill_peek, fill_step, sending_of, peeked_of}
+use Rattle.xsk_model.specs.Own.{is_fill_peek, fill_step, tx_work_of, peeked_of}
 use Rattle.xsk_model.specs.Legal.{IsLegal, AreReceived, AreCompleted}
 use Rattle.xsk_model.specs.History.{IsHistory, Fits}
 use Rattle.xsk_model.specs.Sent.{sent_by}
@@ -113,7 +113,7 @@ pub completed_next : (c : Config) (frames : List Frame) (past : List Entry) (d :
     → IsNextToSend c past d items
 completed_next c frames past d items history done =
     let s : ℕ = done.socket in
-    let n : ℕ = (sending_of c s (own d past)).completed in
+    let n : ℕ = (tx_work_of c s (own d past)).completed in
     let wholes : List (List Item) = whole_packets (packets c.geometry c.sg (peeked_of (Tx s) (own d past))) in
     let peeked = peeked_is c d s (own d past) (history_own c frames past d history) in
     let next : drop n wholes ≡ done.packet ∷ done.later = ap (λ xs. drop n (whole_packets (packets c.geometry c.sg xs))) (sym peeked) ∙ done.next in

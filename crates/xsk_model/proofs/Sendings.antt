@@ -9,7 +9,7 @@ use Rattle.xsk_model.specs.Numbers.{numbers}
 use Rattle.xsk_model.specs.Rings.{is_ring}
 use Rattle.xsk_model.specs.Object.{taken}
 use Rattle.xsk_model.specs.Entry.{Told}
-use Rattle.xsk_model.specs.Own.{Sending, is_on, is_same, waiting, completed_by, sending_after, sending_step, sending_of, peeked_step, peeked_of}
+use Rattle.xsk_model.specs.Own.{TxWork, is_on, is_same, waiting, completed_by, tx_work_after, tx_work_step, tx_work_of, peeked_step, peeked_of}
 use Rattle.xsk_model.specs.History.{Fits, OwnGoesOn}
 use Rattle.xsk_model.specs.Sent.{completed_in, sent_from}
 use Rattle.xsk_model.specs.declared.call.Ring.TheVariants.{Fill, Comp, Rx, Tx}
@@ -21,7 +21,7 @@ use Rattle.xsk_model.proofs.Folds.{part_of-push}
 use Rattle.xsk_model.proofs.OwnRuns.{own_all, fits_taken}
 
 -- the Whole packets of all that was peeked on a TX ring
-abbrev pub wholes : Config → Sending → List (List Item)
+abbrev pub wholes : Config → TxWork → List (List Item)
 wholes c sending = whole_packets (packets c.geometry c.sg sending.peeked)
 
 -- those that further items bring
@@ -34,8 +34,8 @@ wholes-append c peeked items =
     ap whole_packets (packets_from-append c.geometry c.sg [] peeked items)
     ∙ whole_packets-append (packets c.geometry c.sg peeked) (packets_from c.geometry c.sg (rest c.geometry c.sg peeked) items)
 
-pub sending_of-push : (c : Config) (s : ℕ) (mine : List Told) (t : Told) → sending_of c s (mine ++ t ∷ []) ≡ sending_after c s (sending_of c s mine) t.call t.reply
-sending_of-push c s mine t = fold_push (sending_step c s) (record { peeked = []; completed = 0 }) mine t
+pub tx_work_of-push : (c : Config) (s : ℕ) (mine : List Told) (t : Told) → tx_work_of c s (mine ++ t ∷ []) ≡ tx_work_after c s (tx_work_of c s mine) t.call t.reply
+tx_work_of-push c s mine t = fold_push (tx_work_step c s) (record { peeked = []; completed = 0 }) mine t
 
 -- ---- completed packets
 
@@ -57,7 +57,7 @@ pub completed_by-few : (items : List Item) (packets : List (List Item)) → leng
 completed_by-few items [] = omega arith
 completed_by-few items (packet ∷ later) = one_or_none (is_same (numbers items) (numbers packet)) packet later
 
-cond-take : (b : Bool) (c : Config) (u : Sending) (items : List Item) → u.completed ≤ length (wholes c u)
+cond-take : (b : Bool) (c : Config) (u : TxWork) (items : List Item) → u.completed ≤ length (wholes c u)
     → (take (cond b (record u { peeked = u.peeked ++ items }) u).completed (wholes c (cond b (record u { peeked = u.peeked ++ items }) u)) ≡ take u.completed (wholes c u))
     × ((cond b (record u { peeked = u.peeked ++ items }) u).completed ≤ length (wholes c (cond b (record u { peeked = u.peeked ++ items }) u)))
 cond-take true c u items h =
@@ -67,14 +67,14 @@ cond-take true c u items h =
     )
 cond-take false c u items h = (refl, h)
 
-abbrev IsDone : Config → Sending → Sending → List (List Item) → Type 0
+abbrev IsDone : Config → TxWork → TxWork → List (List Item) → Type 0
 IsDone c old new done = (take new.completed (wholes c new) ≡ take old.completed (wholes c old) ++ done) × (new.completed ≤ length (wholes c new))
 
-same_done : (c : Config) (u : Sending) → u.completed ≤ length (wholes c u) → IsDone c u u []
+same_done : (c : Config) (u : TxWork) → u.completed ≤ length (wholes c u) → IsDone c u u []
 same_done c u h = (sym (append-nil (take u.completed (wholes c u))), h)
 
 -- the packets that a call completes on one TX ring
-abbrev pub completed_at : Config → Sending → Call → List (List Item)
+abbrev pub completed_at : Config → TxWork → Call → List (List Item)
 completed_at c u (Reserve r n) = []
 completed_at c u (Submit (Fill d) items) = []
 completed_at c u (Submit (Comp d) items) = completed_by items (waiting c u)
@@ -85,8 +85,8 @@ completed_at c u (Release r n) = []
 completed_at c u (Swap m value) = []
 completed_at c u (Look m) = []
 
-pub sending_done : (c : Config) (s : ℕ) (u : Sending) (call : Call) (reply : Reply) → u.completed ≤ length (wholes c u)
-    → IsDone c u (sending_after c s u call reply) (completed_at c u call)
+pub sending_done : (c : Config) (s : ℕ) (u : TxWork) (call : Call) (reply : Reply) → u.completed ≤ length (wholes c u)
+    → IsDone c u (tx_work_after c s u call reply) (completed_at c u call)
 sending_done c s u (Reserve r n) reply h = same_done c u h
 sending_done c s u (Submit (Fill d) items) reply h = same_done c u h
 sending_done c s u (Submit (Comp d) items) reply h = (
@@ -103,10 +103,10 @@ sending_done c s u (Release r n) reply h = same_done c u h
 sending_done c s u (Swap m value) reply h = same_done c u h
 sending_done c s u (Look m) reply h = same_done c u h
 
-pub completed_in-one : (c : Config) (s : ℕ) (past : List Told) (call : Call) → completed_in c (s ∷ []) past call ≡ completed_at c (sending_of c s past) call
+pub completed_in-one : (c : Config) (s : ℕ) (past : List Told) (call : Call) → completed_in c (s ∷ []) past call ≡ completed_at c (tx_work_of c s past) call
 completed_in-one c s past (Reserve r n) = refl
 completed_in-one c s past (Submit (Fill d) items) = refl
-completed_in-one c s past (Submit (Comp d) items) = append-nil (completed_by items (waiting c (sending_of c s past)))
+completed_in-one c s past (Submit (Comp d) items) = append-nil (completed_by items (waiting c (tx_work_of c s past)))
 completed_in-one c s past (Submit (Rx t) items) = refl
 completed_in-one c s past (Submit (Tx t) items) = refl
 completed_in-one c s past (Peek r n) = refl
@@ -115,22 +115,22 @@ completed_in-one c s past (Swap m value) = refl
 completed_in-one c s past (Look m) = refl
 
 abbrev pub IsWithin : Config → ℕ → List Told → Type 0
-IsWithin c s mine = (sending_of c s mine).completed ≤ length (wholes c (sending_of c s mine))
+IsWithin c s mine = (tx_work_of c s mine).completed ≤ length (wholes c (tx_work_of c s mine))
 
 pub within-push : (c : Config) (s : ℕ) (mine : List Told) (t : Told) → IsWithin c s mine → IsWithin c s (mine ++ t ∷ [])
 within-push c s mine t h =
-    subst (λ u. u.completed ≤ length (wholes c u)) (sym (sending_of-push c s mine t)) (sending_done c s (sending_of c s mine) t.call t.reply h).1
+    subst (λ u. u.completed ≤ length (wholes c u)) (sym (tx_work_of-push c s mine t)) (sending_done c s (tx_work_of c s mine) t.call t.reply h).1
 
 done_packets : Config → ℕ → List Told → List (List Item)
-done_packets c s mine = take (sending_of c s mine).completed (wholes c (sending_of c s mine))
+done_packets c s mine = take (tx_work_of c s mine).completed (wholes c (tx_work_of c s mine))
 
 done_packets-push : (c : Config) (s : ℕ) (mine : List Told) (t : Told) → IsWithin c s mine
     → done_packets c s (mine ++ t ∷ []) ≡ done_packets c s mine ++ completed_in c (s ∷ []) mine t.call
 unfolding done_packets
 done_packets-push c s mine t h =
-    ap (λ u. take u.completed (wholes c u)) (sending_of-push c s mine t)
-    ∙ (sending_done c s (sending_of c s mine) t.call t.reply h).0
-    ∙ ap (λ xs. take (sending_of c s mine).completed (wholes c (sending_of c s mine)) ++ xs) (sym (completed_in-one c s mine t.call))
+    ap (λ u. take u.completed (wholes c u)) (tx_work_of-push c s mine t)
+    ∙ (sending_done c s (tx_work_of c s mine) t.call t.reply h).0
+    ∙ ap (λ xs. take (tx_work_of c s mine).completed (wholes c (tx_work_of c s mine)) ++ xs) (sym (completed_in-one c s mine t.call))
 
 -- what is sent from some calls on, after what was sent before
 sent_goes : (c : Config) (s : ℕ) (past mine : List Told) → IsWithin c s past
@@ -148,13 +148,13 @@ sent_goes c s past (t ∷ mine) h =
     ∙ ap (λ p. map (bytes_of c.geometry c.sg) (done_packets c s p)) (append_assoc past (t ∷ []) mine)
 
 pub sent_is : (c : Config) (s : ℕ) (mine : List Told)
-    → sent_from c (s ∷ []) [] mine ≡ map (bytes_of c.geometry c.sg) (take (sending_of c s mine).completed (wholes c (sending_of c s mine)))
+    → sent_from c (s ∷ []) [] mine ≡ map (bytes_of c.geometry c.sg) (take (tx_work_of c s mine).completed (wholes c (tx_work_of c s mine)))
 unfolding done_packets
 sent_is c s mine = sent_goes c s [] mine (omega arith)
 
 -- ---- peeked items
 
-peeked_step-cond : (b : Bool) (u : Sending) (items : List Item) → (cond b (record u { peeked = u.peeked ++ items }) u).peeked ≡ cond b (u.peeked ++ items) u.peeked
+peeked_step-cond : (b : Bool) (u : TxWork) (items : List Item) → (cond b (record u { peeked = u.peeked ++ items }) u).peeked ≡ cond b (u.peeked ++ items) u.peeked
 peeked_step-cond true u items = refl
 peeked_step-cond false u items = refl
 
@@ -163,8 +163,8 @@ cond_same true xs ys h = sym (append-nil xs) ∙ ap (λ zs. xs ++ zs) (sym h)
 cond_same false xs ys h = refl
 
 -- a call and a fitting reply bring a TX ring's items to both
-sending_peeked : (c : Config) (s : ℕ) (mine : List Told) (u : Sending) (call : Call) (reply : Reply) → Fits c mine call reply
-    → (sending_after c s u call reply).peeked ≡ cond (is_on (Tx s) call) (u.peeked ++ taken reply) u.peeked
+sending_peeked : (c : Config) (s : ℕ) (mine : List Told) (u : TxWork) (call : Call) (reply : Reply) → Fits c mine call reply
+    → (tx_work_after c s u call reply).peeked ≡ cond (is_on (Tx s) call) (u.peeked ++ taken reply) u.peeked
 sending_peeked c s mine u (Reserve r n) reply h = elim (fits_taken c mine (Reserve r n) reply h) [ inl e ↦ cond_same (is_ring (Tx s) r) u.peeked (taken reply) e | inr p ↦ absurd (cc (p.2)) ]
 sending_peeked c s mine u (Submit (Fill d) items) reply h = refl
 sending_peeked c s mine u (Submit (Comp d) items) reply h = refl
@@ -175,12 +175,12 @@ sending_peeked c s mine u (Release r n) reply h = elim (fits_taken c mine (Relea
 sending_peeked c s mine u (Swap m value) reply h = refl
 sending_peeked c s mine u (Look m) reply h = refl
 
-pub peeked_is : (c : Config) (who s : ℕ) (mine : List Told) → OwnGoesOn c who [] mine → (sending_of c s mine).peeked ≡ peeked_of (Tx s) mine
+pub peeked_is : (c : Config) (who s : ℕ) (mine : List Told) → OwnGoesOn c who [] mine → (tx_work_of c s mine).peeked ≡ peeked_of (Tx s) mine
 peeked_is c who s mine goes =
-    own_all (λ m. (sending_of c s m).peeked ≡ peeked_of (Tx s) m) c who [] mine
+    own_all (λ m. (tx_work_of c s m).peeked ≡ peeked_of (Tx s) m) c who [] mine
     (λ before t legal fits h.
-    ap (λ (u : Sending). u.peeked) (sending_of-push c s before t)
-    ∙ sending_peeked c s before (sending_of c s before) t.call t.reply fits
+    ap (λ (u : TxWork). u.peeked) (tx_work_of-push c s before t)
+    ∙ sending_peeked c s before (tx_work_of c s before) t.call t.reply fits
     ∙ ap (λ xs. cond (is_on (Tx s) t.call) (xs ++ taken t.reply) xs) h
     ∙ sym (part_of-push peeked_step (Tx s) [] before t))
     goes refl

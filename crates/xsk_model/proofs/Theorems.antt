@@ -7,7 +7,7 @@ use Rattle.xsk_model.specs.Config.{Config}
 use Rattle.xsk_model.specs.Numbers.{numbers}
 use Rattle.xsk_model.specs.Object.{ring_at, had_by, had_after, reply_at, peek_reply}
 use Rattle.xsk_model.specs.Entry.{Entry, own, all_told}
-use Rattle.xsk_model.specs.Own.{had_of, peeked_of, submitted_of, sending_of}
+use Rattle.xsk_model.specs.Own.{had_of, peeked_of, submitted_of, tx_work_of}
 use Rattle.xsk_model.specs.Legal.{IsLegal}
 use Rattle.xsk_model.specs.Opening.{opening}
 use Rattle.xsk_model.specs.History.{IsHistory, state_after}
@@ -127,7 +127,7 @@ completes_one c d mine items goes legal = one_completion c d mine items goes leg
 pub sent_in_order : SentInOrder
 sent_in_order c frames h d socket history =
     sent_is c socket (own d h)
-    ∙ ap (λ items. map (bytes_of c.geometry c.sg) (take (sending_of c socket (own d h)).completed (whole_packets (packets c.geometry c.sg items))))
+    ∙ ap (λ items. map (bytes_of c.geometry c.sg) (take (tx_work_of c socket (own d h)).completed (whole_packets (packets c.geometry c.sg items))))
     (peeked_is c d socket (own d h) (history_own c frames h d history))
 
 pub few_in_rings : FewInRings

@@ -11,7 +11,7 @@ use Rattle.xsk_model.specs.Steering.{driver_on, socket_on}
 use Rattle.xsk_model.specs.Marks.{HasMark, mark_place, mark_places_of, HoldsClosing, IsMarkNumber, IsMarkOwner}
 use Rattle.xsk_model.specs.Object.{State, ring_at, mark_at, had_by, submitted, peek_reply, reply_at, after, IsWithinRing}
 use Rattle.xsk_model.specs.Entry.{Told, Entry, own, all_told}
-use Rattle.xsk_model.specs.Own.{had_of, part_of, is_on, room_of, held_of, given_of, released_of, peeked_of, submitted_of, sending_of}
+use Rattle.xsk_model.specs.Own.{had_of, part_of, is_on, room_of, held_of, given_of, released_of, peeked_of, submitted_of, tx_work_of}
 use Rattle.xsk_model.specs.Swaps.{last_set, last_seen, HasCleared}
 use Rattle.xsk_model.specs.Legal.{IsItemOn, IsKnown, IsLegal}
 use Rattle.xsk_model.specs.Opening.{IsOpened, opening}
@@ -206,7 +206,7 @@ OneCompletion = (c : Config) (d : ℕ) (mine : List Told) (items : List Item) �
 -- what a driver sent of a socket's packets are the first Whole packets of all that it peeked on the TX ring
 abbrev pub SentInOrder : Type 0
 SentInOrder = (c : Config) (frames : List Frame) (h : List Entry) (d socket : ℕ) → IsHistory c frames h
-    → sent_by c h d socket ≡ map (bytes_of c.geometry c.sg) (take (sending_of c socket (own d h)).completed (whole_packets (packets c.geometry c.sg (peeked_of (Tx socket) (own d h)))))
+    → sent_by c h d socket ≡ map (bytes_of c.geometry c.sg) (take (tx_work_of c socket (own d h)).completed (whole_packets (packets c.geometry c.sg (peeked_of (Tx socket) (own d h)))))
 
 -- the packets that a driver bounced are the first of those that it is to bounce, as many as it counted
 abbrev pub BouncedInOrder : Type 0

@@ -16,7 +16,7 @@ use Rattle.xsk_model.specs.Marks.{HasMark, IsMarkNumber}
 use Rattle.xsk_model.specs.Swaps.{MaySwap, MayFeed}
 use Rattle.xsk_model.specs.Object.{submitted}
 use Rattle.xsk_model.specs.Entry.{Told}
-use Rattle.xsk_model.specs.Own.{had_of, room_of, held_of, is_from_fill, waiting, sending_of}
+use Rattle.xsk_model.specs.Own.{had_of, room_of, held_of, is_from_fill, waiting, tx_work_of}
 use Rattle.xsk_model.specs.declared.call.Ring.{Ring}
 use Rattle.xsk_model.specs.declared.call.Ring.TheVariants.{Fill, Comp, Rx, Tx}
 use Rattle.xsk_model.specs.declared.call.Call.{Call}
@@ -97,7 +97,7 @@ pub record AreCompleted (c : Config) (mine : List Told) (r : Ring) (items : List
   pub queue : queue_of c (Tx socket) ≡ queue_of c r
   pub packet : List Item
   pub later : List (List Item)
-  pub next : waiting c (sending_of c socket mine) ≡ packet ∷ later
+  pub next : waiting c (tx_work_of c socket mine) ≡ packet ∷ later
   pub frames : numbers items ≡ numbers packet
   pub addresses : map (λ (i : Item). i.desc.addr) items ≡ map (λ (i : Item). i.desc.addr) packet
 

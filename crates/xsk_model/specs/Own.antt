@@ -115,12 +115,12 @@ peeked_of r mine = part_of peeked_step r [] mine
 -- ---- the packets of a TX ring
 
 -- what a driver has done with a TX ring: the items that it peeked, and how many of their Whole packets it completed
-pub record Sending : Type 0 where
+pub record TxWork : Type 0 where
   pub peeked : List Item
   pub completed : ℕ
 
 -- the Whole packets that are not yet completed
-abbrev pub waiting : Config → Sending → List (List Item)
+abbrev pub waiting : Config → TxWork → List (List Item)
 waiting c sending = drop sending.completed (whole_packets (packets c.geometry c.sg sending.peeked))
 
 abbrev pub is_same : List ℕ → List ℕ → Bool
@@ -135,20 +135,20 @@ abbrev pub completed_by : List Item → List (List Item) → List (List Item)
 completed_by items [] = []
 completed_by items (packet ∷ later) = if is_same (numbers items) (numbers packet) then packet ∷ [] else []
 
-abbrev pub sending_after : Config → ℕ → Sending → Call → Reply → Sending
-sending_after c s sending (Reserve r n) reply = sending
-sending_after c s sending (Submit (Fill d) items) reply = sending
-sending_after c s sending (Submit (Comp d) items) reply = record sending { completed = sending.completed + length (completed_by items (waiting c sending)) }
-sending_after c s sending (Submit (Rx t) items) reply = sending
-sending_after c s sending (Submit (Tx t) items) reply = sending
-sending_after c s sending (Peek r n) reply = if is_ring (Tx s) r then record sending { peeked = sending.peeked ++ taken reply } else sending
-sending_after c s sending (Release r n) reply = sending
-sending_after c s sending (Swap m value) reply = sending
-sending_after c s sending (Look m) reply = sending
+abbrev pub tx_work_after : Config → ℕ → TxWork → Call → Reply → TxWork
+tx_work_after c s sending (Reserve r n) reply = sending
+tx_work_after c s sending (Submit (Fill d) items) reply = sending
+tx_work_after c s sending (Submit (Comp d) items) reply = record sending { completed = sending.completed + length (completed_by items (waiting c sending)) }
+tx_work_after c s sending (Submit (Rx t) items) reply = sending
+tx_work_after c s sending (Submit (Tx t) items) reply = sending
+tx_work_after c s sending (Peek r n) reply = if is_ring (Tx s) r then record sending { peeked = sending.peeked ++ taken reply } else sending
+tx_work_after c s sending (Release r n) reply = sending
+tx_work_after c s sending (Swap m value) reply = sending
+tx_work_after c s sending (Look m) reply = sending
 
-abbrev pub sending_step : Config → ℕ → Sending → Told → Sending
-sending_step c s sending t = sending_after c s sending t.call t.reply
+abbrev pub tx_work_step : Config → ℕ → TxWork → Told → TxWork
+tx_work_step c s sending t = tx_work_after c s sending t.call t.reply
 
 -- what a driver has done with the TX ring of a socket
-abbrev pub sending_of : Config → ℕ → List Told → Sending
-sending_of c s mine = fold (sending_step c s) (record { peeked = []; completed = 0 }) mine
+abbrev pub tx_work_of : Config → ℕ → List Told → TxWork
+tx_work_of c s mine = fold (tx_work_step c s) (record { peeked = []; completed = 0 }) mine

@@ -5,7 +5,7 @@ use Rattle.xsk_umem.specs.declared.batch.Item.{Item}
 use Rattle.xsk_model.specs.Config.{Config, pair_at}
 use Rattle.xsk_model.specs.Packets.{bytes_of}
 use Rattle.xsk_model.specs.Entry.{Told, Entry, own}
-use Rattle.xsk_model.specs.Own.{waiting, completed_by, sending_of}
+use Rattle.xsk_model.specs.Own.{waiting, completed_by, tx_work_of}
 use Rattle.xsk_model.specs.declared.config.SocketInfo.{SocketInfo}
 use Rattle.xsk_model.specs.declared.call.Ring.TheVariants.{Fill, Comp, Rx, Tx}
 use Rattle.xsk_model.specs.declared.call.Mark.TheVariants.{Bounced}
@@ -28,7 +28,7 @@ sockets_of c d = sockets_from 0 c.sockets (pair_at c.pairs d).port (pair_at c.pa
 abbrev pub completed_in : Config → List ℕ → List Told → Call → List (List Item)
 completed_in c sockets past (Reserve r n) = []
 completed_in c sockets past (Submit (Fill d) items) = []
-completed_in c sockets past (Submit (Comp d) items) = flat_map (λ s. completed_by items (waiting c (sending_of c s past))) sockets
+completed_in c sockets past (Submit (Comp d) items) = flat_map (λ s. completed_by items (waiting c (tx_work_of c s past))) sockets
 completed_in c sockets past (Submit (Rx s) items) = []
 completed_in c sockets past (Submit (Tx s) items) = []
 completed_in c sockets past (Peek r n) = []

@@ -7,7 +7,7 @@ use Rattle.xsk_model.specs.Entry.{Entry, own}
 use Rattle.xsk_model.specs.History.{IsHistory, state_after}
 use Rattle.xsk_model.specs.Stored.{stored}
 use Rattle.xsk_legal.specs.Noted.{Noted}
-use Rattle.xsk_legal.specs.Noting.{IsFor}
+use Rattle.xsk_legal.specs.ItemNotes.{IsFor}
 use Rattle.xsk_legal.specs.Standing.{StandsFor}
 use Rattle.xsk_plain.specs.Engine.{Engine, Shows}
 

@@ -6,7 +6,7 @@ use Rattle.std.proofs.lemmas.Bool.{cases_Bool, le-leb, lt-leb, lt-ltb, le-ltb}
 use Rattle.xsk_lines.specs.Reading.{◌>>=◌}
 use Rattle.xsk_recording.specs.Line.{line_at, ended, is_ended}
 use Rattle.xsk_recording.specs.Header.{Header, header_line, header_after, towards}
-use Rattle.xsk_recording.specs.Heads.{head_view, is_mark, IsNoSetting}
+use Rattle.xsk_recording.specs.HeaderFields.{head_view, is_mark, IsNoSetting}
 use Rattle.xsk_recording.specs.Text.{Read, line_after, body_after, header_read, call_after, with_told, with_aside, most_bytes, most_lines, ends_line}
 use Rattle.xsk_recording.specs.Feeding.{Reader, Shows, KeepsSetting, Tells, IsHanded, is_calls}
 use Rattle.xsk_recording.specs.declared.head.Next.{Next}

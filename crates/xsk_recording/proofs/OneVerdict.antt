@@ -12,7 +12,7 @@ use Rattle.xsk_lines.specs.Lines.{lines_of}
 use Rattle.xsk_lines.specs.Reading.{◌>>=◌}
 use Rattle.xsk_recording.specs.Line.{line_at, is_ended}
 use Rattle.xsk_recording.specs.Header.{towards}
-use Rattle.xsk_recording.specs.Heads.{IsNoSetting}
+use Rattle.xsk_recording.specs.HeaderFields.{IsNoSetting}
 use Rattle.xsk_recording.specs.Text.{Numbered, Read, nothing_read, line_after, lines_after, body_after, header_read, call_after, with_told, with_aside, most_bytes, most_lines, ends_line}
 use Rattle.xsk_recording.specs.Verdict.{calls_of, IsSound, Begins, IsStuck, IsVerdict}
 use Rattle.xsk_recording.specs.Laws.{OneVerdict}

@@ -3,7 +3,7 @@ use Rattle.std.specs.Prelude.{◌≡◌, ℕ, ◌+◌, ◌<◌, ◌≤◌, Bool,
 use Rattle.xsk_side.specs.Setting.{Setting}
 use Rattle.xsk_lines.specs.Lines.{lines_of}
 use Rattle.xsk_recording.specs.Header.{Header}
-use Rattle.xsk_recording.specs.Heads.{IsNoSetting}
+use Rattle.xsk_recording.specs.HeaderFields.{IsNoSetting}
 use Rattle.xsk_recording.specs.Text.{Numbered, Read, nothing_read, line_after, lines_after, most_bytes}
 use Rattle.xsk_recording.specs.declared.head.Next.{Next}
 use Rattle.xsk_recording.specs.declared.head.Next.TheVariants.{Title, Umem, Pairs, Sockets, Mark, Calls}

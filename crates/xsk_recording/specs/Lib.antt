@@ -1,7 +1,7 @@
 pub mod Line
 pub mod Views
 pub mod Header
-pub mod Heads
+pub mod HeaderFields
 pub mod Text
 pub mod Feeding
 pub mod Readers

@@ -3,7 +3,7 @@ use Rattle.std.specs.Prelude.{◌≡◌, ◌≢◌, ℕ, ◌+◌, ◌<◌, Some,
 use Rattle.xsk_side.specs.Possible.{Possible}
 use Rattle.xsk_side.specs.declared.call.Call.{Call}
 use Rattle.xsk_lines.specs.Lines.{lines_of}
-use Rattle.xsk_recording.specs.Heads.{IsNoSetting}
+use Rattle.xsk_recording.specs.HeaderFields.{IsNoSetting}
 use Rattle.xsk_recording.specs.Text.{Numbered, Read, nothing_read, line_after, lines_after}
 use Rattle.xsk_recording.specs.declared.head.Next.{Next}
 use Rattle.xsk_recording.specs.declared.head.Next.TheVariants.{Title, Umem, Pairs, Sockets, Mark, Calls}

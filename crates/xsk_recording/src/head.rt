@@ -3,7 +3,7 @@ ghost use Rattle.std.specs.Prelude.{◌≡◌, IfOk, IfErr};
 ghost use Rattle.xsk_recording.specs.Header.{three_at, pair_at, socket_at, size_told, flag_at, rules_at};
 ghost use Rattle.xsk_recording.specs.Header.{no_header, header_after, header_line, towards, pair_line, socket_line, kernel_line};
 ghost use Rattle.xsk_recording.specs.Line.{ended};
-ghost use Rattle.xsk_recording.specs.Heads.{head_view, flag_view, is_mark, IsNoSetting};
+ghost use Rattle.xsk_recording.specs.HeaderFields.{head_view, flag_view, is_mark, IsNoSetting};
 
 use crate::words::{is_end, is_ended};
 use std::alloc::Global;
@@ -45,7 +45,7 @@ pub(crate) struct Head {
 
 impl Model for Head {
     ghost use Rattle.xsk_recording.specs.Header.{Header};
-    ghost use Rattle.xsk_recording.specs.Heads.{header_of};
+    ghost use Rattle.xsk_recording.specs.HeaderFields.{header_of};
 
     ghost Value = { Header };
 

@@ -3,7 +3,7 @@ use Rattle.std.proofs.Common.{◌≡◌, ℕ, ◌+◌, List, [], ◌∷◌, leng
 use Rattle.xsk_model.specs.Entry.{Told, with_told}
 use Rattle.xsk_model.specs.declared.call.Call.{Call}
 use Rattle.xsk_model.specs.declared.call.Reply.{Reply}
-use Rattle.xsk_turns.specs.Counted.{capped}
+use Rattle.xsk_turns.specs.Statistics.{capped}
 use Rattle.xsk_table.specs.Held.{Holder}
 use Rattle.xsk_rings.specs.Rounds.{mine_of}
 use Rattle.xsk_rings.specs.Serving.{Served}

@@ -1,7 +1,7 @@
 //! A pass with the number of its calls.
 ghost use Rattle.std.specs.Prelude.{◌≡◌, [], length};
 ghost use Rattle.xsk_model.specs.Asks.{joined_call, joined_reply, HasAsked, HasAnswered};
-ghost use Rattle.xsk_turns.specs.Counted.{capped};
+ghost use Rattle.xsk_turns.specs.Statistics.{capped};
 ghost use Rattle.xsk_rings.specs.Rounds.{mine_of};
 ghost use Rattle.xsk_rings.specs.Serving.{MayAsk, Served};
 
@@ -22,7 +22,7 @@ impl Model for Counted {
     ghost use Rattle.std.specs.Prelude.{◌≡◌, length};
     ghost use Rattle.xsk_table.specs.Held.{Holder};
     ghost use Rattle.xsk_rings.specs.Rounds.{mine_of};
-    ghost use Rattle.xsk_turns.specs.Counted.{capped};
+    ghost use Rattle.xsk_turns.specs.Statistics.{capped};
 
     ghost Value = { Holder };
 

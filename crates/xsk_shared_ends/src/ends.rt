@@ -8,7 +8,7 @@ ghost use Rattle.xsk_rings.specs.Rounds.{mine_of};
 ghost use Rattle.xsk_app.specs.Resumed.{IsResumed, kept_in};
 ghost use Rattle.xsk_turns.specs.AppTurns.{app_start, both, lanes_of};
 ghost use Rattle.xsk_turns.specs.AppSplit.{AtLane, AtSide, AtMarks, HasLeft, IsSplit};
-ghost use Rattle.xsk_turns.specs.Counted.{capped};
+ghost use Rattle.xsk_turns.specs.Statistics.{capped};
 ghost use Rattle.xsk_turns.specs.Owned.{IsSteady};
 ghost use Rattle.xsk_shared_ends.specs.Shown.{AreEnds, AreSame, KeepsLanes, Makes, IsFoundEmpty};
 ghost use Rattle.xsk_shared_ends.specs.declared.visiting.Step.TheVariants.{Moved, Idle};

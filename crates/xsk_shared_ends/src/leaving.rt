@@ -4,7 +4,7 @@ ghost use Rattle.xsk_table.specs.View.{idle};
 ghost use Rattle.xsk_table.specs.Held.{Belongs};
 ghost use Rattle.xsk_rings.specs.Rounds.{mine_of};
 ghost use Rattle.xsk_turns.specs.AppSplit.{IsWholeSplitRun};
-ghost use Rattle.xsk_turns.specs.Counted.{capped};
+ghost use Rattle.xsk_turns.specs.Statistics.{capped};
 ghost use Rattle.xsk_shared_ends.specs.Last.{AreDrained, StaysLast, shown_of_ends};
 ghost use Rattle.xsk_shared_ends.specs.declared.last.Turned.TheVariants.{Ended};
 

@@ -12,7 +12,7 @@ use Rattle.xsk_model.specs.Rings.{port_of, queue_of}
 use Rattle.xsk_model.specs.Descriptor.{is_valid, is_inside, has_bytes, fits_chunk, has_known_options}
 use Rattle.xsk_model.specs.Packets.{Continues, IsWhole, rest}
 use Rattle.xsk_model.specs.Entry.{Told}
-use Rattle.xsk_model.specs.Own.{Sending, waiting, sending_of}
+use Rattle.xsk_model.specs.Own.{TxWork, waiting, tx_work_of}
 use Rattle.xsk_model.specs.Legal.{IsItemOn, AreCompleted}
 use Rattle.xsk_model.specs.History.{OwnGoesOn}
 use Rattle.xsk_model.specs.declared.call.Ring.{Ring}
@@ -66,7 +66,7 @@ no_strays c (item ∷ items) (first ∷ packet) h all =
     tail : (x y : ℕ) (xs ys : List ℕ) → x ∷ xs ≡ y ∷ ys → xs ≡ ys
     tail x y xs ys e = cc
 
-packet_kept : (c : Config) (f : ℕ) (u : Sending) (packet : List Item) (later : List (List Item)) → waiting c u ≡ packet ∷ later → times f (numbers packet) ≤ times f (kept c u)
+packet_kept : (c : Config) (f : ℕ) (u : TxWork) (packet : List Item) (later : List (List Item)) → waiting c u ≡ packet ∷ later → times f (numbers packet) ≤ times f (kept c u)
 packet_kept c f u packet later next =
     let waits = ap (λ (ws : List (List Item)). times f (flat_map numbers ws)) next ∙ times-append f (numbers packet) (flat_map numbers later) in
     omega (arith, waits, times-append f (flat_map numbers (waiting c u)) (numbers (rest c.geometry c.sg u.peeked)))
@@ -79,7 +79,7 @@ pub may_come_on_comp : (c : Config) (d : ℕ) (items : List Item) (mine : List T
     → All (IsCompleted (setting_of c) from d) (entries items) × (strays_in (setting_of c) (entries items) ≤ strays)
 may_come_on_comp c d items mine from strays config low goes completed on is =
     let t : ℕ = completed.socket in
-    let u : Sending = sending_of c t mine in
+    let u : TxWork = tx_work_of c t mine in
     let bound : IsBound c.ports c.queues c.pairs (socket_at c.sockets t) = config.bound t (record { port = 0; queue = 0; rx = None; tx = None }) completed.tx.0 in
     let pair : pair_of (setting_of c) (Tx t) ≡ d =
     same_pair c (Tx t) completed.tx

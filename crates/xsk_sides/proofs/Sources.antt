@@ -8,7 +8,7 @@ use Rattle.xsk_model.specs.Numbers.{times, numbers}
 use Rattle.xsk_model.specs.Rings.{is_ring}
 use Rattle.xsk_model.specs.Object.{taken, call_ring}
 use Rattle.xsk_model.specs.Entry.{Told}
-use Rattle.xsk_model.specs.Own.{Sending, had_of, is_fill_peek, is_from_fill, sending_after, sending_of}
+use Rattle.xsk_model.specs.Own.{TxWork, had_of, is_fill_peek, is_from_fill, tx_work_after, tx_work_of}
 use Rattle.xsk_model.specs.Legal.{IsLegal, HasRole}
 use Rattle.xsk_model.specs.History.{Fits, OwnGoesOn}
 use Rattle.xsk_model.specs.Sent.{sockets_from}
@@ -20,7 +20,7 @@ use Rattle.xsk_model.specs.declared.call.Call.TheVariants.{Reserve, Submit, Peek
 use Rattle.xsk_model.specs.declared.call.Reply.{Reply}
 use Rattle.xsk_model.proofs.Places.{is_ring-true}
 use Rattle.xsk_model.proofs.OwnRuns.{own_all, own_push, fits_taken}
-use Rattle.xsk_model.proofs.Sendings.{wholes, sending_of-push}
+use Rattle.xsk_model.proofs.Sendings.{wholes, tx_work_of-push}
 use Rattle.xsk_model.proofs.Completions.{IsKept, kept, kept-peek, kept-comp, total, from_fill-push, own_kept}
 
 abbrev pub got_step : ℕ → Option Ring → Told → Option Ring
@@ -69,8 +69,8 @@ filled c d f mine goes =
 -- ---- TX
 
 -- what is kept of a TX ring grows by what is taken alone
-grown : (f : ℕ) (c : Config) (t : ℕ) (u : Sending) (call : Call) (reply : Reply) → u.completed ≤ length (wholes c u)
-    → times f (kept c (sending_after c t u call reply)) ≤ times f (kept c u) + times f (numbers (taken reply))
+grown : (f : ℕ) (c : Config) (t : ℕ) (u : TxWork) (call : Call) (reply : Reply) → u.completed ≤ length (wholes c u)
+    → times f (kept c (tx_work_after c t u call reply)) ≤ times f (kept c u) + times f (numbers (taken reply))
 grown f c t u (Reserve r n) reply h = omega arith
 grown f c t u (Submit (Fill d) items) reply h = omega arith
 grown f c t u (Submit (Comp d) items) reply h = omega (arith, kept-comp f c u items)
@@ -86,12 +86,12 @@ grown f c t u (Swap m value) reply h = omega arith
 grown f c t u (Look m) reply h = omega arith
 
 -- only a Peek on TX itself brings a frame there
-on_tx : (f : ℕ) (c : Config) (t : ℕ) (u : Sending) (r : Ring) (n : ℕ) (reply : Reply) → times f (kept c u) ≤ 0
-    → 1 ≤ times f (kept c (sending_after c t u (Peek r n) reply)) → r ≡ Tx t
+on_tx : (f : ℕ) (c : Config) (t : ℕ) (u : TxWork) (r : Ring) (n : ℕ) (reply : Reply) → times f (kept c u) ≤ 0
+    → 1 ≤ times f (kept c (tx_work_after c t u (Peek r n) reply)) → r ≡ Tx t
 on_tx f c t u r n reply none some = ⊎_elim
     (λ (e : is_ring (Tx t) r ≡ true). sym (is_ring-true (Tx t) r e))
     (λ (e : is_ring (Tx t) r ≡ false).
-    let same : times f (kept c (sending_after c t u (Peek r n) reply)) ≡ times f (kept c u) =
+    let same : times f (kept c (tx_work_after c t u (Peek r n) reply)) ≡ times f (kept c u) =
     ap (λ b. times f (kept c (cond b (record u { peeked = u.peeked ++ taken reply }) u))) e in
     absurd (omega (arith, none, some, same)))
     (cases_Bool (is_ring (Tx t) r))
@@ -99,12 +99,12 @@ on_tx f c t u r n reply none some = ⊎_elim
 -- the frames of one socket of a queue are among those of all
 kept_in : (c : Config) (mine : List Told) (f n k : ℕ) (sockets : List SocketInfo) (port queue : ℕ) (d : SocketInfo) → k < length sockets
     → (get_or sockets k d).port ≡ port → (get_or sockets k d).queue ≡ queue
-    → times f (kept c (sending_of c (n + k) mine)) ≤ total c (sockets_from n sockets port queue) mine f
+    → times f (kept c (tx_work_of c (n + k) mine)) ≤ total c (sockets_from n sockets port queue) mine f
 kept_in c mine f n k [] port queue d low at on = absurd (omega (arith, low))
 kept_in c mine f n zero (socket ∷ sockets) port queue d low at on =
     let test : (eqb socket.port port && eqb socket.queue queue) ≡ true = and_from (eqb socket.port port) (eqb socket.queue queue) (eq-eqb socket.port port at) (eq-eqb socket.queue queue on) in
     let is = ap (λ b. total c (cond b (n ∷ sockets_from (n + 1) sockets port queue) (sockets_from (n + 1) sockets port queue)) mine f) test in
-    let same = ap (λ m. times f (kept c (sending_of c m mine))) (add_zero n) in
+    let same = ap (λ m. times f (kept c (tx_work_of c m mine))) (add_zero n) in
     omega (arith, is, same)
   where
     add_zero : (m : ℕ) → m + 0 ≡ m
@@ -113,7 +113,7 @@ kept_in c mine f n (suc k) (socket ∷ sockets) port queue d low at on =
     let rest = kept_in c mine f (n + 1) k sockets port queue d (omega (arith, low)) at on in
     let same : n + suc k ≡ (n + 1) + k = omega arith in
     let more = longer (eqb socket.port port && eqb socket.queue queue) n (sockets_from (n + 1) sockets port queue) in
-    omega (arith, rest, ap (λ m. times f (kept c (sending_of c m mine))) same, more)
+    omega (arith, rest, ap (λ m. times f (kept c (tx_work_of c m mine))) same, more)
   where
     longer : (b : Bool) (m : ℕ) (xs : List ℕ) → total c xs mine f ≤ total c (cond b (m ∷ xs) xs) mine f
     longer true m xs = omega arith
@@ -123,27 +123,27 @@ kept_in c mine f n (suc k) (socket ∷ sockets) port queue d low at on =
 abbrev pub IsOn : Config → ℕ → ℕ → Type 0
 IsOn c d t = (t < length c.sockets) × ((socket_at c.sockets t).port ≡ (pair_at c.pairs d).port) × ((socket_at c.sockets t).queue ≡ (pair_at c.pairs d).queue)
 
-kept_had : (c : Config) (d : ℕ) (mine : List Told) (f t : ℕ) → IsOn c d t → IsKept c d mine → times f (kept c (sending_of c t mine)) ≤ times f (had_of mine)
+kept_had : (c : Config) (d : ℕ) (mine : List Told) (f t : ℕ) → IsOn c d t → IsKept c d mine → times f (kept c (tx_work_of c t mine)) ≤ times f (had_of mine)
 kept_had c d mine f t on is =
     let among = kept_in c mine f 0 t c.sockets (pair_at c.pairs d).port (pair_at c.pairs d).queue (record { port = 0; queue = 0; rx = None; tx = None }) on.0 on.1 on.2 in
     let zero_add : 0 + t ≡ t = omega arith in
-    omega (arith, among, is.had f, ap (λ k. times f (kept c (sending_of c k mine))) zero_add)
+    omega (arith, among, is.had f, ap (λ k. times f (kept c (tx_work_of c k mine))) zero_add)
 
 abbrev IsSent : Config → ℕ → ℕ → List Told → Type 0
-IsSent c f t mine = 1 ≤ times f (kept c (sending_of c t mine)) → got_on f mine ≡ Some (Tx t)
+IsSent c f t mine = 1 ≤ times f (kept c (tx_work_of c t mine)) → got_on f mine ≡ Some (Tx t)
 
 sent_step : (c : Config) (d f t : ℕ) → d < length c.pairs → IsOn c d t → (before : List Told) (e : Told) → OwnGoesOn c d [] before → IsLegal c before d e.call → Fits c before e.call e.reply
     → IsSent c f t before → IsSent c f t (before ++ e ∷ [])
 sent_step c d f t low on before e goes legal fits h some =
-    let u : Sending = sending_of c t before in
+    let u : TxWork = tx_work_of c t before in
     let is : IsKept c d before = own_kept c d low before goes in
-    let now : 1 ≤ times f (kept c (sending_after c t u e.call e.reply)) = subst (λ (v : Sending). 1 ≤ times f (kept c v)) (sending_of-push c t before e) some in
+    let now : 1 ≤ times f (kept c (tx_work_after c t u e.call e.reply)) = subst (λ (v : TxWork). 1 ≤ times f (kept c v)) (tx_work_of-push c t before e) some in
     ⊎_elim
     (λ (new : 0 < times f (numbers (taken e.reply))). elim (fits_taken c before e.call e.reply fits) [
       | inl none ↦ absurd (omega (arith, new, ap (λ items. times f (numbers items)) none))
       | inr peeked ↦
           let none : times f (kept c u) ≤ 0 = omega (arith, kept_had c d before f t on is, peeked.3.fresh f, new) in
-          let there : peeked.0 ≡ Tx t = on_tx f c t u peeked.0 peeked.1 e.reply none (subst (λ (call : Call). 1 ≤ times f (kept c (sending_after c t u call e.reply))) peeked.2 now) in
+          let there : peeked.0 ≡ Tx t = on_tx f c t u peeked.0 peeked.1 e.reply none (subst (λ (call : Call). 1 ≤ times f (kept c (tx_work_after c t u call e.reply))) peeked.2 now) in
           got_new f before e new ∙ ap call_ring peeked.2 ∙ ap Some there
     ])
     (λ (old : times f (numbers (taken e.reply)) ≤ 0). got_old f before e old ∙ h (omega (arith, old, now, grown f c t u e.call e.reply (is.within t))))

@@ -10,10 +10,10 @@ use Rattle.xsk_model.specs.Entry.{Entry, Told, own}
 use Rattle.xsk_model.specs.Stored.{stored}
 use Rattle.xsk_model.specs.History.{IsHistory}
 use Rattle.xsk_model.proofs.Theorems.{one_holder}
-use Rattle.xsk_turns.specs.Counted.{capped}
+use Rattle.xsk_turns.specs.Statistics.{capped}
 use Rattle.xsk_turns.specs.declared.wire.Wire.{Wire}
 use Rattle.xsk_machine.specs.Figures.{figures_in}
-use Rattle.xsk_machine.specs.Figured.{driver_figures_by, driver_figures_of, figures_of}
+use Rattle.xsk_machine.specs.HistoryFigures.{driver_figures_by, driver_figures_of, figures_of}
 use Rattle.xsk_driver.specs.Runs.{StandsWith}
 use Rattle.xsk_driver.specs.Shown.{Shown as DriverShown}
 use Rattle.xsk_machine.specs.declared.figures.DriverFigures.{DriverFigures}

@@ -16,7 +16,7 @@ use Rattle.xsk_turns.specs.Turns.{Judged, seat_of, start, turn, IsWholeDriverRun
 use Rattle.xsk_turns.specs.Workers.{Setting, input_of}
 use Rattle.xsk_turns.specs.declared.wire.Wire.{Wire}
 use Rattle.xsk_turns.proofs.Walks.{Anything, meet_anything}
-use Rattle.xsk_turns.proofs.DriverPlaces.{Family, Said, IsLaw, AtPasses, none_comes}
+use Rattle.xsk_turns.proofs.DriverStages.{Family, Said, IsLaw, AtSilent, none_comes}
 use Rattle.xsk_turns.proofs.DriverWalk.{at_end}
 use Rattle.xsk_bounds.specs.Bounds.{closing_changes, packets_of}
 use Rattle.xsk_bounds.proofs.Totals.{sum-le, sum-const}
@@ -42,15 +42,15 @@ module _ (wire : Wire) (c : Config) (d : ℕ) where
   abbrev Asked : Said
   Asked kept call l = Unit {0}
 
-  passes : AtPasses (seat_of wire c d) Anything At
-  passes none_comes noted kept l = λ h e. tt
-  passes p noted kept l = λ h e. tt
+  silent : AtSilent (seat_of wire c d) Anything At
+  silent none_comes noted kept l = λ h e. tt
+  silent p noted kept l = λ h e. tt
 
   law : IsLaw (seat_of wire c d) Anything At Asked (λ kept l. 0 < length l)
   law = record {
     calls = λ p noted kept l known h. tt;
     entries = λ e noted kept l known found h a q. tt;
-    passes = passes;
+    silent = silent;
     ends = λ noted kept l n known h a q. let t : Told = record { call = Swap (GoneMark d) 1; reply = Old n } in omega (arith, length-append l (t ∷ []));
   }
 

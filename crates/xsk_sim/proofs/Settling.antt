@@ -13,7 +13,7 @@ use Rattle.xsk_turns.specs.declared.disposal.Disposal.TheVariants.{Delivered, No
 use Rattle.xsk_turns.proofs.Disposing.{keeps_disposals}
 use Rattle.xsk_turns.proofs.ScriptLemmas.{leaves_on, leaves_front, asked_last}
 use Rattle.xsk_turns.proofs.Walks.{Premise, MeetAlong}
-use Rattle.xsk_turns.proofs.DriverPlaces as walk
+use Rattle.xsk_turns.proofs.DriverStages as walk
 use Rattle.xsk_turns.proofs.DriverWalk as along
 use Rattle.xsk_sim.specs.Stalls.{settled_of}
 use Rattle.xsk_sim.proofs.Stalling.{settled_at}
@@ -80,14 +80,14 @@ module _ (s : Setting) (d : ℕ) where
       same l left (settled left (Delivered t)) (walk.call_at seat (walk.SubmitRx packet t) kept) Submitted (one_more left (Delivered t)) q
   entries e noted kept l known found h a q = same l (walk.kept_at seat (walk.point_of e) kept) (walk.leads seat e noted kept).2 (walk.call_at seat (walk.point_of e) kept) (walk.reply_of e) (omega arith) q
 
-  passes : walk.AtPasses seat Q At
-  passes (walk.untried packet later x) noted kept l = λ h e. omega (arith, h, one_more kept x)
-  passes (walk.drops_full packet t) noted kept l = λ h e. omega (arith, h, one_more kept RxFull)
-  passes (walk.drops_frameless packet t) noted kept l = λ h e. omega (arith, h, one_more kept NoFrames)
-  passes p noted kept l = λ h e. h
+  silent : walk.AtSilent seat Q At
+  silent (walk.untried packet later x) noted kept l = λ h e. omega (arith, h, one_more kept x)
+  silent (walk.drops_full packet t) noted kept l = λ h e. omega (arith, h, one_more kept RxFull)
+  silent (walk.drops_frameless packet t) noted kept l = λ h e. omega (arith, h, one_more kept NoFrames)
+  silent p noted kept l = λ h e. h
 
   law : walk.IsLaw seat Q At Asked (λ kept l. Unit {0})
-  law = record { calls = calls; entries = entries; passes = passes; ends = λ noted kept l n known h a q. tt }
+  law = record { calls = calls; entries = entries; silent = silent; ends = λ noted kept l n known h a q. tt }
 
   settles_more : (l : List Told) (kept : Kept) (call : Call) (rest : Reply → Script Kept) → Asks (turn seat) begins l kept call rest → settled_of s d l ≤ length kept.disposals
   settles_more l kept call rest asks =

@@ -9,7 +9,7 @@ use Rattle.xsk_model.specs.declared.call.Act.{Act}
 use Rattle.xsk_model.specs.declared.call.Act.TheVariants.{Call as Gave, Ended as IsEnd}
 use Rattle.xsk_model.specs.declared.call.Call.{Call}
 use Rattle.xsk_model.specs.declared.call.Reply.{Reply}
-use Rattle.xsk_turns.specs.Counted.{capped, IsCounted}
+use Rattle.xsk_turns.specs.Statistics.{capped, IsCounted}
 use Rattle.xsk_turns.specs.Script.{Script, ask, again, ended, never, begun, Leaves}
 use Rattle.xsk_turns.specs.Stepping.{joined_ask}
 use Rattle.xsk_turns.specs.Turns.{Kept}
@@ -20,7 +20,7 @@ use Rattle.xsk_turns.proofs.Counting.{keeps_counters, keeps_counters_at_end}
 use Rattle.xsk_driver.specs.Runs.{StandsWith}
 use Rattle.xsk_driver.specs.Shown.{Shown as DriverShown}
 use Rattle.xsk_machine.specs.Figures.{counter_to, counters_to}
-use Rattle.xsk_machine.specs.Figured.{by_class, counters_of}
+use Rattle.xsk_machine.specs.HistoryFigures.{by_class, counters_of}
 use Rattle.xsk_machine.specs.Workers.{Stands}
 use Rattle.xsk_machine.specs.declared.worker.AnyWorker.{AnyWorker}
 use Rattle.xsk_machine.specs.declared.worker.AnyWorker.TheVariants.{Driver, App}

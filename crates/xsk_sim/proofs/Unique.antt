@@ -17,7 +17,7 @@ use Rattle.xsk_sim.specs.Order.{number_at, start_of, rotated}
 use Rattle.xsk_sim.specs.Rounds.{IsTurn, AreTurns, AreRounds}
 use Rattle.xsk_turns.specs.Workers.{Setting, input_of, IsWorkerRun, IsWholeRun}
 use Rattle.xsk_machine.specs.Acts.{sent_of}
-use Rattle.xsk_machine.specs.Figured.{figures_of}
+use Rattle.xsk_machine.specs.HistoryFigures.{figures_of}
 use Rattle.xsk_sim.specs.Runs.{IsRoundHistory, HasEnded, HasStalled, OneHistory, OneLog, OneFigures, OneSent, EndsOrStalls, OneStall}
 use Rattle.xsk_sim.specs.Shown.{Shown}
 use Rattle.xsk_model.specs.Stored.{stored}

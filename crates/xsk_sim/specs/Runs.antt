@@ -28,7 +28,7 @@ use Rattle.xsk_ended.specs.Until.{AreForwardedUntil, AreExpectedUntil}
 use Rattle.xsk_driver.specs.Asking.{IsAnswer}
 use Rattle.xsk_machine.specs.Acts.{sent_of}
 use Rattle.xsk_machine.specs.Workers.{HasGiven, setting_by}
-use Rattle.xsk_machine.specs.Figured.{figures_of}
+use Rattle.xsk_machine.specs.HistoryFigures.{figures_of}
 use Rattle.xsk_sim.specs.Journal.{rounds_of}
 use Rattle.xsk_sim.specs.Rounds.{AreRounds, AreInRounds}
 use Rattle.xsk_sim.specs.Shown.{Shown}

@@ -11,7 +11,7 @@ use Rattle.xsk_turns.specs.Workers.{Setting, input_of}
 use Rattle.xsk_turns.specs.declared.disposal.Disposal.{Disposal}
 use Rattle.xsk_turns.specs.declared.disposal.DriverCounters.{DriverCounters}
 use Rattle.xsk_machine.specs.Figures.{counters_to}
-use Rattle.xsk_machine.specs.Figured.{counters_of}
+use Rattle.xsk_machine.specs.HistoryFigures.{counters_of}
 use Rattle.xsk_machine.specs.declared.worker.AnyWorker.{AnyWorker}
 use Rattle.xsk_machine.specs.declared.worker.AnyWorker.TheVariants.{Driver, App}
 use Rattle.xsk_sim.specs.declared.rounds.Workers.{Workers}

@@ -13,7 +13,7 @@ ghost use Rattle.xsk_prog.specs.declared.rule.Verdict.{Verdict as AVerdict};
 ghost use Rattle.xsk_turns.specs.Inputs.{inputs_of};
 ghost use Rattle.xsk_driver.specs.Asking.{IsAnswer};
 ghost use Rattle.xsk_machine.specs.Workers.{AreNew, HasGiven, setting_by};
-ghost use Rattle.xsk_driver.specs.Sent.{IsShort};
+ghost use Rattle.xsk_driver.specs.SentRoom.{IsShort};
 ghost use Rattle.xsk_sim.specs.Shown.{HasShortPackets, IsSentBy, IsShownBy, Shown, packets_in};
 ghost use Rattle.xsk_prog.specs.Chain.{AllObey, SamePrograms};
 ghost use Rattle.xsk_turns.specs.Workers.{Setting, AreGiven};

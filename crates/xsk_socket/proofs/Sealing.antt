@@ -12,7 +12,7 @@ use Rattle.std.proofs.lemmas.List.Sums.{AllPass-from_list_all, count_by-le-lengt
 use Rattle.xsk_model.specs.Config.{IsBound, IsConfig, IsMap, IsServed, pairs_at}
 use Rattle.xsk_model.specs.declared.config.PairInfo.{PairInfo}
 use Rattle.xsk_model.proofs.Counting.{range-push}
-use Rattle.xsk_socket.specs.declared.socket.Place.{Place}
+use Rattle.xsk_socket.specs.declared.socket.Binding.{Binding}
 use Rattle.xsk_socket.specs.declared.socket.Socket.{Socket}
 use Rattle.xsk_socket.specs.Bound.{bound_in, info_in, map_on}
 use Rattle.xsk_socket.specs.Regular.{numbered}
@@ -62,11 +62,11 @@ map_more sockets queue port =
     ∙ rw append-nil refl
 
 -- on one of a port's first queues
-below_queue : ℕ → ℕ → Option Place → Bool
+below_queue : ℕ → ℕ → Option Binding → Bool
 below_queue port queues None = false
 below_queue port queues (Some place) = eqb place.port port && ltb place.queue queues
 
-split : (port queues : ℕ) (place : Option Place) → cond (below_queue port queues place) 1 0 + cond (is_on port queues place) 1 0 ≡ cond (below_queue port (queues + 1) place) 1 0
+split : (port queues : ℕ) (place : Option Binding) → cond (below_queue port queues place) 1 0 + cond (is_on port queues place) 1 0 ≡ cond (below_queue port (queues + 1) place) 1 0
 unfolding below_queue
 split port queues None = refl
 split port queues (Some place) = grind (arith, nat_tests)
@@ -75,7 +75,7 @@ counts : {A : Type 0} (f g h : A → ℕ) (xs : List A) → ((x : A) → f x + g
 counts f g h [] same = refl
 counts f g h (x ∷ xs) same = omega (arith, sum_by-cons f x xs, sum_by-cons g x xs, sum_by-cons h x xs, counts f g h xs same, same x)
 
-none_below : (port : ℕ) (place : Option Place) → below_queue port 0 place ≡ false
+none_below : (port : ℕ) (place : Option Binding) → below_queue port 0 place ≡ false
 unfolding below_queue
 none_below port None = refl
 none_below port (Some place) = grind (arith, nat_tests)
@@ -126,7 +126,7 @@ one_pair pairs port queue few has =
     let some = some_counted (λ (p : PairInfo). eqb p.port port && eqb p.queue queue) pairs has in
     omega (arith, few, some)
 
-bound_info : (ports queues : ℕ) (pairs : List PairInfo) (x : Socket) (place : Place) → ((p q : ℕ) → pairs_at pairs p q ≤ 1) → IsSocket ports queues pairs x
+bound_info : (ports queues : ℕ) (pairs : List PairInfo) (x : Socket) (place : Binding) → ((p q : ℕ) → pairs_at pairs p q ≤ 1) → IsSocket ports queues pairs x
     → IsPlaced ports queues pairs x place → x.bound ≡ Some place → IsBound ports queues pairs (info_in x)
 bound_info ports queues pairs x place apart is at there = rw there (record {
   port = at.port;
@@ -137,7 +137,7 @@ bound_info ports queues pairs x place apart is at there = rw there (record {
   tx = is.tx;
 })
 
-bound_one : (ports queues : ℕ) (pairs : List PairInfo) (x : Socket) → ((p q : ℕ) → pairs_at pairs p q ≤ 1) → (bound : Option Place) → x.bound ≡ bound
+bound_one : (ports queues : ℕ) (pairs : List PairInfo) (x : Socket) → ((p q : ℕ) → pairs_at pairs p q ≤ 1) → (bound : Option Binding) → x.bound ≡ bound
     → is_some bound ≡ true → IsSocket ports queues pairs x → IsBound ports queues pairs (info_in x)
 bound_one ports queues pairs x apart None there some is = absurd (cc)
 bound_one ports queues pairs x apart (Some place) there some is =
@@ -194,7 +194,7 @@ setup-config s is some bound sg wakeup =
       closing = tt;
     }
   where
-    some_pair : (ports queues : ℕ) (pairs : List PairInfo) (x : Socket) (bound : Option Place) → is_some bound ≡ true → IfSome bound (IsPlaced ports queues pairs x) → 1 ≤ length pairs
+    some_pair : (ports queues : ℕ) (pairs : List PairInfo) (x : Socket) (bound : Option Binding) → is_some bound ≡ true → IfSome bound (IsPlaced ports queues pairs x) → 1 ≤ length pairs
     some_pair ports queues pairs x None some at = absurd (cc)
     some_pair ports queues pairs x (Some place) some at =
         let counted = some_counted (λ (p : PairInfo). eqb p.port place.port && eqb p.queue place.queue) pairs at.pair in

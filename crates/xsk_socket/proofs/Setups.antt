@@ -12,7 +12,7 @@ use Rattle.std.proofs.lemmas.List.Sums.{sum_by-cons, sum_by-set, sum_by_push}
 use Rattle.xsk_model.specs.Config.{IsRingSize, pairs_at}
 use Rattle.xsk_model.specs.declared.config.PairInfo.{PairInfo}
 use Rattle.xsk_model.proofs.RingSizes.{some_size}
-use Rattle.xsk_socket.specs.declared.socket.Place.{Place}
+use Rattle.xsk_socket.specs.declared.socket.Binding.{Binding}
 use Rattle.xsk_socket.specs.declared.socket.RingKind.{RingKind}
 use Rattle.xsk_socket.specs.declared.socket.RingKind.TheVariants.{Rx, Tx, Fill, Comp}
 use Rattle.xsk_socket.specs.declared.socket.Socket.{Socket}
@@ -102,8 +102,8 @@ more_ring s i size kind own is within here unbound ring =
     let own_sound : IsSocket s.ports s.queues s.pairs own = subst (IsSocket s.ports s.queues s.pairs) here
     (All-get_or (IsSocket s.ports s.queues s.pairs) s.sockets i no_socket within is.sockets) in
     let free : (socket_at s.sockets i).bound ≡ None = ap (λ (x : Socket). x.bound) here ∙ unbound in
-    let free_before : is_bound (socket_at s.sockets i) ≡ false = ap (is_some {T = Place}) free in
-    let free_after : is_bound y ≡ false = ap (is_some {T = Place}) (same_bound kind size own ∙ unbound) in
+    let free_before : is_bound (socket_at s.sockets i) ≡ false = ap (is_some {T = Binding}) free in
+    let free_after : is_bound y ≡ false = ap (is_some {T = Binding}) (same_bound kind size own ∙ unbound) in
     let counted : count_by is_bound (set s.sockets i y) + cond (is_bound (socket_at s.sockets i)) 1 0 ≡ count_by is_bound s.sockets + cond (is_bound y) 1 0
     = sum_by-set (λ x. cond (is_bound x) 1 0) s.sockets i y no_socket within in
     let counted_now : count_by is_bound (set s.sockets i y) + 0 ≡ count_by is_bound s.sockets + 0
@@ -180,7 +180,7 @@ one_more pairs own port queue =
       | inr missing ↦ rw (missing, length-append) (omega arith)
     ]
 
-wider : (ports queues port queue : ℕ) (pairs : List PairInfo) (own x : Socket) (bound : Option Place) → IfSome bound (IsPlaced ports queues pairs x)
+wider : (ports queues port queue : ℕ) (pairs : List PairInfo) (own x : Socket) (bound : Option Binding) → IfSome bound (IsPlaced ports queues pairs x)
     → IfSome bound (IsPlaced ports queues (paired pairs own port queue) x)
 wider ports queues port queue pairs own x None is = tt
 wider ports queues port queue pairs own x (Some place) is = record {
@@ -206,7 +206,7 @@ more_bind s i port queue first own is within here may =
     let sound : IsSocket s.ports s.queues s.pairs own = subst (IsSocket s.ports s.queues s.pairs) here
     (All-get_or (IsSocket s.ports s.queues s.pairs) s.sockets i no_socket within is.sockets) in
     let free : (socket_at s.sockets i).bound ≡ None = ap (λ (x : Socket). x.bound) here ∙ may.unbound in
-    let free_before : is_bound (socket_at s.sockets i) ≡ false = ap (is_some {T = Place}) free in
+    let free_before : is_bound (socket_at s.sockets i) ≡ false = ap (is_some {T = Binding}) free in
     let counted : count_by is_bound (set s.sockets i y) + cond (is_bound (socket_at s.sockets i)) 1 0 ≡ count_by is_bound s.sockets + 1
     = sum_by-set (λ x. cond (is_bound x) 1 0) s.sockets i y no_socket within in
     let counted_now : count_by is_bound (set s.sockets i y) + 0 ≡ count_by is_bound s.sockets + 1 = rw free_before at counted in

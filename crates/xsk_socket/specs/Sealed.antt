@@ -5,13 +5,13 @@ use Rattle.std.specs.List.{flat_map, range_with_len}
 use Rattle.xsk_umem.specs.Geometry.{Geometry}
 use Rattle.xsk_model.specs.Config.{Config}
 use Rattle.xsk_model.specs.declared.config.SocketInfo.{SocketInfo}
-use Rattle.xsk_socket.specs.declared.socket.Place.{Place}
+use Rattle.xsk_socket.specs.declared.socket.Binding.{Binding}
 use Rattle.xsk_socket.specs.declared.socket.RingKind.TheVariants.{Rx, Tx}
 use Rattle.xsk_socket.specs.Refusals.{has_flag}
 use Rattle.xsk_socket.specs.Regular.{numbered}
 use Rattle.xsk_socket.specs.Setup.{Made, flags_of, pairs_of, place_of, ring_of, sockets_of}
 
-abbrev pub placed : Option Place → Place
+abbrev pub placed : Option Binding → Binding
 placed place = unwrap_or place (record { port = 0; queue = 0 })
 
 -- a socket with the rings that it was given, where it was bound
@@ -23,7 +23,7 @@ info_of calls s = record {
   tx = ring_of Tx s calls;
 }
 
-abbrev pub is_on : ℕ → ℕ → Option Place → Bool
+abbrev pub is_on : ℕ → ℕ → Option Binding → Bool
 is_on port queue None = false
 is_on port queue (Some place) = place.port == port && place.queue == queue
 

@@ -5,7 +5,7 @@ use Rattle.std.specs.Prelude.{◌≡◌, ℕ, ◌+◌, ◌==◌, ◌&&◌, Bool,
 use Rattle.std.specs.List.{list_any, slice_index_or}
 use Rattle.xsk_umem.specs.Geometry.{Geometry}
 use Rattle.xsk_model.specs.declared.config.PairInfo.{PairInfo}
-use Rattle.xsk_socket.specs.declared.socket.Place.{Place}
+use Rattle.xsk_socket.specs.declared.socket.Binding.{Binding}
 use Rattle.xsk_socket.specs.declared.socket.RingKind.{RingKind}
 use Rattle.xsk_socket.specs.declared.socket.RingKind.TheVariants.{Rx, Tx, Fill, Comp}
 use Rattle.xsk_socket.specs.declared.socket.Socket.{Socket}
@@ -73,7 +73,7 @@ ring_of kind s (ring t other size ∷ before) = if t == s && is_kind other kind 
 ring_of kind s (bind t port queue flags ∷ before) = ring_of kind s before
 
 -- where a socket is bound
-abbrev pub place_of : ℕ → List Made → Option Place
+abbrev pub place_of : ℕ → List Made → Option Binding
 place_of s [] = None
 place_of s (socket ∷ before) = if s == sockets_of before then None else place_of s before
 place_of s (ring t kind size ∷ before) = place_of s before

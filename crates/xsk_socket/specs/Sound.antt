@@ -2,12 +2,12 @@
 use Rattle.std.specs.Prelude.{◌≡◌, ℕ, ◌<◌, ◌≤◌, ◌⊎◌, List, length, Some, IfSome, IsSome, All, Any, count_by, true}
 use Rattle.xsk_model.specs.Config.{IsRingSize, pairs_at}
 use Rattle.xsk_model.specs.declared.config.PairInfo.{PairInfo}
-use Rattle.xsk_socket.specs.declared.socket.Place.{Place}
+use Rattle.xsk_socket.specs.declared.socket.Binding.{Binding}
 use Rattle.xsk_socket.specs.declared.socket.Socket.{Socket}
 use Rattle.xsk_socket.specs.Fits.{IsCount}
 use Rattle.xsk_socket.specs.Setup.{State, has_pair, is_bound}
 
-pub record IsPlaced (ports queues : ℕ) (pairs : List PairInfo) (x : Socket) (place : Place) : Type 0 where
+pub record IsPlaced (ports queues : ℕ) (pairs : List PairInfo) (x : Socket) (place : Binding) : Type 0 where
   pub port : place.port < ports
   pub queue : place.queue < queues
   pub pair : has_pair pairs place.port place.queue ≡ true

@@ -7,7 +7,7 @@ ghost use Rattle.xsk_socket.specs.Regular.{numbered};
 ghost use Rattle.xsk_socket.specs.Sealed.{is_on};
 ghost use Rattle.xsk_socket.specs.Setup.{is_bound};
 
-use crate::socket::{Place, Socket};
+use crate::socket::{Binding, Socket};
 use std::alloc::{AllocError, Global};
 use xsk_model::SocketInfo;
 
@@ -28,7 +28,7 @@ pub(crate) fn infos(alloc: Global, sockets: &[Socket]) -> Result<Vec<SocketInfo>
 fn info(socket: Socket) -> SocketInfo
     ensures { result ≡ info_in socket }
 {
-    let place = socket.bound.unwrap_or(Place { port: 0, queue: 0 });
+    let place = socket.bound.unwrap_or(Binding { port: 0, queue: 0 });
     SocketInfo {
         port: place.port,
         queue: place.queue,
@@ -64,13 +64,13 @@ fn port_map(
 {
     let mut map = Vec::new(alloc);
     for queue in 0..queues {
-        add_bound(&mut map, sockets, Place { port, queue })?;
+        add_bound(&mut map, sockets, Binding { port, queue })?;
     }
     Ok(map)
 }
 
 /// Adds the sockets that are bound to a place, by number from 1.
-fn add_bound(map: &mut Vec<u64>, sockets: &[Socket], place: Place) -> Result<(), AllocError>
+fn add_bound(map: &mut Vec<u64>, sockets: &[Socket], place: Binding) -> Result<(), AllocError>
     ensures { OnOk result (map.new.items ≡ map.old.items ++ bound_in sockets.now place.port place.queue) }
 {
     for index in 0..sockets.len() {
@@ -89,7 +89,7 @@ fn add_if(map: &mut Vec<u64>, holds: bool, number: u64) -> Result<(), AllocError
     Ok(())
 }
 
-fn is_on(socket: Socket, place: Place) -> bool
+fn is_on(socket: Socket, place: Binding) -> bool
     ensures { result ≡ is_on place.port place.queue socket.bound }
 {
     match socket.bound {

@@ -10,7 +10,7 @@ ghost use Rattle.xsk_socket.specs.Setup.Made.{socket as made_socket, ring as mad
 
 use crate::layout::is_ring_size;
 use crate::seal::{all_bound, infos, maps};
-use crate::socket::{Place, Socket};
+use crate::socket::{Binding, Socket};
 use crate::{RingKind, SetupError};
 use std::alloc::Global;
 use std::marker::Model;
@@ -155,7 +155,7 @@ impl Setup {
     {
         self.check_bind(socket, port, queue, flags, shared)?;
         let own = self.sockets[socket as usize];
-        let place = Place { port, queue };
+        let place = Binding { port, queue };
         pair_up(&mut self.pairs, own, place)?;
         self.flags = Some(self.flags.unwrap_or(flags));
         self.sockets[socket as usize] = own.bound_to(place);
@@ -304,7 +304,7 @@ fn has_pair(pairs: &[PairInfo], port: u32, queue: u32) -> bool
 }
 
 /// The socket's FILL and COMPLETION become the pair of its queue, if there is none.
-fn pair_up(pairs: &mut Vec<PairInfo>, own: Socket, place: Place) -> Result<(), SetupError>
+fn pair_up(pairs: &mut Vec<PairInfo>, own: Socket, place: Binding) -> Result<(), SetupError>
     requires { has_pair pairs.old.items place.port place.queue ≡ false → (IsSome own.fill × IsSome own.comp) }
     ensures paired { OnOk result (pairs.new.items ≡ paired pairs.old.items own place.port place.queue) }
     ensures kept { OnErr result (pairs.new.items ≡ pairs.old.items) }

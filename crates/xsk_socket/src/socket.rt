@@ -14,7 +14,7 @@ pub enum RingKind {
 
 /// The port and queue of a socket that is bound.
 #[derive(Clone, Copy, Debug, PartialEq, Eq)]
-pub struct Place {
+pub struct Binding {
     pub port: u32,
     pub queue: u32,
 }
@@ -26,7 +26,7 @@ pub struct Socket {
     pub tx: Option<u32>,
     pub fill: Option<u32>,
     pub comp: Option<u32>,
-    pub bound: Option<Place>,
+    pub bound: Option<Binding>,
 }
 
 impl Socket {
@@ -68,7 +68,7 @@ impl Socket {
     }
 
     /// The socket, bound to a place.
-    pub fn bound_to(self, place: Place) -> Socket
+    pub fn bound_to(self, place: Binding) -> Socket
         ensures { result ≡ record self { bound = Some place } }
     {
         Socket {

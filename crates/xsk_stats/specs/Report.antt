@@ -8,7 +8,7 @@ use Rattle.std.specs.List.{range_with_len, slice_index_or}
 use Rattle.xsk_model.specs.Config.{Config, pair_at, classes_of}
 use Rattle.xsk_model.specs.declared.config.PairInfo.{PairInfo}
 use Rattle.xsk_turns.specs.Counters.{no_counters}
-use Rattle.xsk_turns.specs.Counted.{capped}
+use Rattle.xsk_turns.specs.Statistics.{capped}
 use Rattle.xsk_turns.specs.declared.disposal.Disposal.{Disposal}
 use Rattle.xsk_turns.specs.declared.disposal.Disposal.TheVariants.{Delivered, NoFrames, RxFull, TooLong, Runt, Missed, Passed, Dropped, Bounced}
 use Rattle.xsk_turns.specs.declared.disposal.DriverCounters.{DriverCounters}

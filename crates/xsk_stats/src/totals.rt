@@ -1,7 +1,7 @@
 //! The sums of the statistics of all drivers.
 ghost use Rattle.std.specs.Prelude.{◌≡◌, ◌+◌, ◌≤◌, List, [], ◌∷◌, ◌++◌};
 ghost use Rattle.xsk_machine.specs.declared.figures.DriverFigures.{DriverFigures as AFigures};
-ghost use Rattle.xsk_turns.specs.Counted.{capped};
+ghost use Rattle.xsk_turns.specs.Statistics.{capped};
 ghost use Rattle.xsk_stats.specs.Report.{of_sockets, totals_of};
 
 use xsk_machine::{DriverFigures, FigureList};

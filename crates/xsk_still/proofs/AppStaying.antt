@@ -16,7 +16,7 @@ use Rattle.xsk_turns.proofs.AppShut.{no_shut, none_drains}
 use Rattle.xsk_turns.proofs.Counting.{four_classes}
 use Rattle.xsk_turns.proofs.Mangling.{back_sides}
 use Rattle.xsk_turns.proofs.Walks.{Premise, nothing_due, submit_due, release_due}
-use Rattle.xsk_turns.proofs.AppWalk.{Place, Lanes, Lane, Sides, Side, Ending, Looking, Waking, Looked, Kicking, TxTold, Lowering, Shutting, Family, PeekRx, ReleaseRx, ReserveTx, SubmitTx, PeekComp, ReleaseComp, ReserveFill, SubmitFill, LookRxDone, TellTxDone, LookGone, LookNeed, KickDriver, LowerCell, TellClosing, PeekDrain, ReleaseDrain, LookAcked, group, rx_empty, rx_items, rx_released, tx_granted, tx_full, tx_submitted, comp_empty, comp_items, comp_released, fill_granted, fill_full, fill_submitted, looked_rx_done, told_tx_done, looked_gone, looked_need, kicked, lowered, told_closing, drain_empty, drain_items, drain_released, looked_acked, flags_of, is_over, no_lanes, has_items, lanes_done, has_frames, all_given, sides_done, looks, rests, skips, begins, without_need, needs_none, needs_kick, told_quietly, told_both, closes, keeps_cell, closed_quietly, closed_kicks, Said, AtCalls, AtEntries, AtPasses, IsLaw, at_call}
+use Rattle.xsk_turns.proofs.AppWalk.{Stage, Lanes, Lane, Sides, Side, Ending, Looking, Waking, Looked, Kicking, TxTold, Lowering, Shutting, Family, PeekRx, ReleaseRx, ReserveTx, SubmitTx, PeekComp, ReleaseComp, ReserveFill, SubmitFill, LookRxDone, TellTxDone, LookGone, LookNeed, KickDriver, LowerCell, TellClosing, PeekDrain, ReleaseDrain, LookAcked, group, rx_empty, rx_items, rx_released, tx_granted, tx_full, tx_submitted, comp_empty, comp_items, comp_released, fill_granted, fill_full, fill_submitted, looked_rx_done, told_tx_done, looked_gone, looked_need, kicked, lowered, told_closing, drain_empty, drain_items, drain_released, looked_acked, flags_of, is_over, no_lanes, has_items, lanes_done, has_frames, all_given, sides_done, looks, rests, skips, begins, without_need, needs_none, needs_kick, told_quietly, told_both, closes, keeps_cell, closed_quietly, closed_kicks, Said, AtCalls, AtEntries, AtSilent, IsLaw, at_call}
 use Rattle.xsk_still.specs.Still.{LaneStays, SideStays, AppStaysBy}
 use Rattle.xsk_still.specs.Still.{IsStill}
 use Rattle.xsk_still.specs.Own.{IsPlain, AppStays}
@@ -134,7 +134,7 @@ module _ (c : Config) (a : ℕ) (one : IsApp c a) (none_shut : c.closing ≡ Non
     pub known : (j : ℕ) → j < k → IsKnown kept j
 
   -- in a turn that began in the stretch
-  abbrev Now : ℕ → Place → AppNoted → AppKept → Type 0
+  abbrev Now : ℕ → Stage → AppNoted → AppKept → Type 0
   Now t (Lanes k) noted kept = LanesNow k noted kept × (noted.sides_empty ≡ true)
   Now t (Lane k nothing_due) noted kept = LanesTo kept k × (pending_at kept k ≢ []) × (noted.sides_empty ≡ true)
   Now t (Sides k) noted kept = SidesNow k noted kept
@@ -143,7 +143,7 @@ module _ (c : Config) (a : ℕ) (one : IsApp c a) (none_shut : c.closing ≡ Non
   Now t (Looking k) noted kept = SidesNow 2 noted kept × Known k kept × (2 ≤ t → Over kept)
   Now t place noted kept = ⊥
 
-  abbrev before : Place → ℕ
+  abbrev before : Stage → ℕ
   before (Lanes k) = k
   before (Lane k due) = k
   before (Sides k) = 8 + k
@@ -163,7 +163,7 @@ module _ (c : Config) (a : ℕ) (one : IsApp c a) (none_shut : c.closing ≡ Non
     pub sides : SidesTo kept 2
     pub known : Known 2 kept
 
-  record Stands (place : Place) (noted : AppNoted) (kept : AppKept) (l : List Told) : Type 0 where
+  record Stands (place : Stage) (noted : AppNoted) (kept : AppKept) (l : List Told) : Type 0 where
     pub turns : ℕ
     pub few : length l ≤ m + 4 + 12 * turns + before place
     pub sized : Sized kept
@@ -173,14 +173,14 @@ module _ (c : Config) (a : ℕ) (one : IsApp c a) (none_shut : c.closing ≡ Non
     pub over : 3 ≤ turns → Over kept
 
   -- a place to which it goes on once drivers are woken, and how many are yet to be
-  abbrev IsOn : Place → Type 0
+  abbrev IsOn : Stage → Type 0
   IsOn (Lanes k) = Unit {0}
   IsOn (Side k nothing_due) = Unit {0}
   IsOn (Looking k) = Unit {0}
   IsOn (Kicking place pair) = IsOn place
   IsOn place = ⊥
 
-  abbrev kicks : Place → ℕ
+  abbrev kicks : Stage → ℕ
   kicks (Kicking place pair) = 1 + kicks place
   kicks place = 0
 
@@ -195,7 +195,7 @@ module _ (c : Config) (a : ℕ) (one : IsApp c a) (none_shut : c.closing ≡ Non
   Asked kept call l = m + 64 ≤ length l → IsPlain call × AppStaysBy c a x kept
 
   -- before the stretch nothing is claimed
-  early : (place : Place) (noted : AppNoted) (kept : AppKept) (l : List Told) → length l ≤ m + 4 → Sized kept → Stands place noted kept l
+  early : (place : Stage) (noted : AppNoted) (kept : AppKept) (l : List Told) → length l ≤ m + 4 → Sized kept → Stands place noted kept l
   early place noted kept l few sized = record {
     turns = 0;
     few = omega (arith, few);
@@ -206,7 +206,7 @@ module _ (c : Config) (a : ℕ) (one : IsApp c a) (none_shut : c.closing ≡ Non
     over = λ some. absurd (omega arith);
   }
 
-  woken : (place : Place) (noted : AppNoted) (kept : AppKept) (l : List Told) → IsOn place → length l + kicks place ≤ m + 3 → Sized kept → At place noted kept l
+  woken : (place : Stage) (noted : AppNoted) (kept : AppKept) (l : List Told) → IsOn place → length l + kicks place ≤ m + 3 → Sized kept → At place noted kept l
   woken (Lanes k) noted kept l on few sized = early (Lanes k) noted kept l (omega (arith, few)) sized
   woken (Side k nothing_due) noted kept l on few sized = early (Side k nothing_due) noted kept l (omega (arith, few)) sized
   woken (Looking k) noted kept l on few sized = early (Looking k) noted kept l (omega (arith, few)) sized
@@ -218,10 +218,10 @@ module _ (c : Config) (a : ℕ) (one : IsApp c a) (none_shut : c.closing ≡ Non
 
   -- ---- at each call
 
-  many : (place : Place) (noted : AppNoted) (kept : AppKept) (l : List Told) → before place ≤ 12 → m + 64 ≤ length l → (h : Stands place noted kept l) → 4 ≤ h.turns
+  many : (place : Stage) (noted : AppNoted) (kept : AppKept) (l : List Told) → before place ≤ 12 → m + 64 ≤ length l → (h : Stands place noted kept l) → 4 ≤ h.turns
   many place noted kept l small long h = omega (arith, small, long, h.few)
 
-  reasons : (place : Place) (noted : AppNoted) (kept : AppKept) (l : List Told) → before place ≤ 12 → m + 64 ≤ length l → Stands place noted kept l → AppStaysBy c a x kept
+  reasons : (place : Stage) (noted : AppNoted) (kept : AppKept) (l : List Told) → before place ≤ 12 → m + 64 ≤ length l → Stands place noted kept l → AppStaysBy c a x kept
   reasons place noted kept l small long h =
       let four = many place noted kept l small long h in
       let stays = h.stays (omega (arith, four)) in
@@ -233,7 +233,7 @@ module _ (c : Config) (a : ℕ) (one : IsApp c a) (none_shut : c.closing ≡ Non
         unended = λ e ones none. over.unended (λ side k. subst (λ b. mark_at c x (cond b (Gone (pair_of c a side)) (RxDone (pair_of c a side))) ≡ 1) (sym e) (ones side k)) e none;
       }
 
-  never : {A : Type 0} (place : Place) (noted : AppNoted) (kept : AppKept) (l : List Told) → before place ≤ 12 → m + 64 ≤ length l → (h : Stands place noted kept l) → (Now h.turns place noted kept → ⊥) → A
+  never : {A : Type 0} (place : Stage) (noted : AppNoted) (kept : AppKept) (l : List Told) → before place ≤ 12 → m + 64 ≤ length l → (h : Stands place noted kept l) → (Now h.turns place noted kept → ⊥) → A
   never place noted kept l small long h un = absurd (un (h.now (omega (arith, many place noted kept l small long h))))
 
   calls : AtCalls c a At Asked
@@ -260,7 +260,7 @@ module _ (c : Config) (a : ℕ) (one : IsApp c a) (none_shut : c.closing ≡ Non
   -- ---- entries
 
   -- one in the stretch, that leaves what is kept of lanes and sides, and what is noted
-  step : (place next : Place) (noted : AppNoted) (kept : AppKept) (l : List Told) (call : Call) (reply : Reply) → before place + 1 ≤ before next → (h : Stands place noted kept l)
+  step : (place next : Stage) (noted : AppNoted) (kept : AppKept) (l : List Told) (call : Call) (reply : Reply) → before place + 1 ≤ before next → (h : Stands place noted kept l)
       → (1 ≤ h.turns → Now h.turns next noted kept) → Stands next noted kept (with_told l call reply)
   step place next noted kept l call reply fits h now = record {
     turns = h.turns;
@@ -273,14 +273,14 @@ module _ (c : Config) (a : ℕ) (one : IsApp c a) (none_shut : c.closing ≡ Non
   }
 
   -- one before the stretch
-  first : (next : Place) (noted : AppNoted) (kept : AppKept) (l : List Told) (call : Call) (reply : Reply) → length l < m → Sized kept → Stands next noted kept (with_told l call reply)
+  first : (next : Stage) (noted : AppNoted) (kept : AppKept) (l : List Told) (call : Call) (reply : Reply) → length l < m → Sized kept → Stands next noted kept (with_told l call reply)
   first next noted kept l call reply lt sized = early next noted kept (with_told l call reply) (omega (arith, lt, longer l call reply)) sized
 
   by_stretch : {A : Type 0} (l : List Told) → (length l < m → A) → (m ≤ length l → A) → A
   by_stretch l f g = ⊎_elim (λ (lt : length l < m). f lt) (λ (ge : m ≤ length l). g ge) (cases_lt (length l) m)
 
   -- one that changes the object isn't in it
-  moves : (next : Place) (noted : AppNoted) (now kept : AppKept) (l : List Told) (call : Call) (reply : Reply) → changes call reply ≡ true → Q now l call reply → Sized kept
+  moves : (next : Stage) (noted : AppNoted) (now kept : AppKept) (l : List Told) (call : Call) (reply : Reply) → changes call reply ≡ true → Q now l call reply → Sized kept
       → Stands next noted kept (with_told l call reply)
   moves next noted now kept l call reply is q sized =
       by_stretch l (λ lt. first next noted kept l call reply lt sized) (λ ge. absurd (let no : true ≡ false = sym is ∙ (q ge).quiet in cc))
@@ -462,7 +462,7 @@ module _ (c : Config) (a : ℕ) (one : IsApp c a) (none_shut : c.closing ≡ Non
 
   -- ---- what goes on without a call
 
-  pass : (place next : Place) (noted : AppNoted) (kept : AppKept) (l : List Told) → before place ≤ before next → (h : Stands place noted kept l) → (1 ≤ h.turns → Now h.turns next noted kept)
+  pass : (place next : Stage) (noted : AppNoted) (kept : AppKept) (l : List Told) → before place ≤ before next → (h : Stands place noted kept l) → (1 ≤ h.turns → Now h.turns next noted kept)
       → Stands next noted kept l
   pass place next noted kept l fits h now = record { turns = h.turns; few = omega (arith, h.few, fits); sized = h.sized; now = now; stays = h.stays; began = h.began; over = h.over }
 
@@ -510,10 +510,10 @@ module _ (c : Config) (a : ℕ) (one : IsApp c a) (none_shut : c.closing ≡ Non
   some_frame : (xs : List Frame) (frame : Frame) (frames : List Frame) → xs ≡ frame ∷ frames → xs ≢ []
   some_frame xs frame frames e none = let off : frame ∷ frames ≡ [] = sym e ∙ none in cc
 
-  passes : AtPasses c a At
-  passes no_lanes noted kept l = λ h done. pass (Lanes 0) (Sides 0) noted kept l (omega arith) h
+  silent : AtSilent c a At
+  silent no_lanes noted kept l = λ h done. pass (Lanes 0) (Sides 0) noted kept l (omega arith) h
       (λ some. record { lanes = λ e. absurd (let off : true ≡ false = sym done ∙ e in cc); stay = λ j k. absurd (omega (arith, k)); empty = λ none. (h.now some).1 })
-  passes (has_items lane item items) noted kept l = λ h e. record {
+  silent (has_items lane item items) noted kept l = λ h e. record {
     turns = h.turns;
     few = h.few;
     sized = h.sized;
@@ -522,9 +522,9 @@ module _ (c : Config) (a : ℕ) (one : IsApp c a) (none_shut : c.closing ≡ Non
     over = h.over;
     now = λ some. ((h.now some).0.stay, some_item (pending_at kept lane) item items e, (h.now some).1);
   }
-  passes lanes_done noted kept l = λ h sends. pass (Lanes (lanes_of c)) (Sides 0) noted kept l (omega (arith, lanes_few)) h
+  silent lanes_done noted kept l = λ h sends. pass (Lanes (lanes_of c)) (Sides 0) noted kept l (omega (arith, lanes_few)) h
       (λ some. record { lanes = λ e. (h.now some).0; stay = λ j k. absurd (omega (arith, k)); empty = λ none. (h.now some).1 })
-  passes (has_frames side frame frames) noted kept l = λ h e. record {
+  silent (has_frames side frame frames) noted kept l = λ h e. record {
     turns = h.turns;
     few = h.few;
     sized = h.sized;
@@ -535,12 +535,12 @@ module _ (c : Config) (a : ℕ) (one : IsApp c a) (none_shut : c.closing ≡ Non
         let now = h.now some in
         ((λ sends. record { stay = (now.lanes sends).stay; empty = (now.lanes sends).empty }), now.stay, some_frame (back_at kept side) frame frames e);
   }
-  passes (all_given side) noted kept l = λ h e. pass (Side side nothing_due) (Sides (side + 1)) noted (with_back kept side []) l (omega arith) h
+  silent (all_given side) noted kept l = λ h e. pass (Side side nothing_due) (Sides (side + 1)) noted (with_back kept side []) l (omega arith) h
       (λ some. absurd ((h.now some).2 (none_left kept side)))
-  passes sides_done noted kept l = λ h e. pass (Sides 2) Ending noted kept l (omega arith) h h.now
-  passes looks noted kept l = λ h w. pass Ending (Looking 0) noted kept l (omega arith) h
+  silent sides_done noted kept l = λ h e. pass (Sides 2) Ending noted kept l (omega arith) h h.now
+  silent looks noted kept l = λ h w. pass Ending (Looking 0) noted kept l (omega arith) h
       (λ some. let now = h.now some in (now, record { known = λ j k. absurd (omega (arith, k)) }, over_by h.turns noted kept now h.stays h.began w))
-  passes rests noted kept l = λ h w. pass Ending (Looking 2) noted kept l (omega arith) h
+  silent rests noted kept l = λ h w. pass Ending (Looking 2) noted kept l (omega arith) h
       (λ some.
       let now = h.now some in
       let seen = and_parts (is_set kept.seen 0) (is_set kept.seen 1) w.1 in
@@ -550,9 +550,9 @@ module _ (c : Config) (a : ℕ) (one : IsApp c a) (none_shut : c.closing ≡ Non
       both_known kept e f g zero k = to_known kept 0 false e (inl f)
       both_known kept e f g (suc zero) k = to_known kept 1 false e (inl g)
       both_known kept e f g (suc (suc j)) k = absurd (omega (arith, k))
-  passes (skips side) noted kept l = λ h e. pass (Looking side) (Looking (side + 1)) noted kept l (omega arith) h
+  silent (skips side) noted kept l = λ h e. pass (Looking side) (Looking (side + 1)) noted kept l (omega arith) h
       (λ some. let now = h.now some in (now.0, known_more kept side now.1 (inl e), now.2))
-  passes begins noted kept l = λ h e. record {
+  silent begins noted kept l = λ h e. record {
     turns = h.turns + 1;
     few = omega (arith, h.few);
     sized = h.sized;
@@ -565,18 +565,18 @@ module _ (c : Config) (a : ℕ) (one : IsApp c a) (none_shut : c.closing ≡ Non
       both_flags : (b : Bool) (kept : AppKept) → ((side : ℕ) → side < 2 → is_set (cond b kept.gone kept.seen) side ≡ true) → cond b (both kept.gone) (both kept.seen) ≡ true
       both_flags true kept all = both_set _ _ (all 0 (omega arith)) (all 1 (omega arith))
       both_flags false kept all = both_set _ _ (all 0 (omega arith)) (all 1 (omega arith))
-  passes (without_need place need pair) noted kept l = λ h off. woken place noted kept l h.0 (omega (arith, h.1, h.2)) h.3
-  passes (needs_none place need pair n) noted kept l = λ h e. woken place noted kept l h.0 (omega (arith, h.1, h.2)) h.3
-  passes (needs_kick place need pair n) noted kept l = λ h e. (h.0, omega (arith, h.1, h.2), h.3)
-  passes told_quietly noted kept l = λ h off. early (Looking 2) noted kept l (omega (arith, h.0)) h.1
-  passes told_both noted kept l = λ h on. (tt, omega (arith, h.0), h.1)
-  passes (closes shut) noted kept l = λ h e. absurd (no_socket shut e.0)
-  passes (keeps_cell shut index) noted kept l = λ h e. pass (Lowering shut index) (Lowering shut (index + 1)) noted kept l (omega arith) h h.now
-  passes (closed_quietly shut) noted kept l = λ h e. pass (Shutting shut) (Lanes 0) noted kept l (omega arith) h (λ some. absurd (h.now some))
-  passes (closed_kicks shut) noted kept l = λ h e. absurd (no_socket shut e.1)
+  silent (without_need place need pair) noted kept l = λ h off. woken place noted kept l h.0 (omega (arith, h.1, h.2)) h.3
+  silent (needs_none place need pair n) noted kept l = λ h e. woken place noted kept l h.0 (omega (arith, h.1, h.2)) h.3
+  silent (needs_kick place need pair n) noted kept l = λ h e. (h.0, omega (arith, h.1, h.2), h.3)
+  silent told_quietly noted kept l = λ h off. early (Looking 2) noted kept l (omega (arith, h.0)) h.1
+  silent told_both noted kept l = λ h on. (tt, omega (arith, h.0), h.1)
+  silent (closes shut) noted kept l = λ h e. absurd (no_socket shut e.0)
+  silent (keeps_cell shut index) noted kept l = λ h e. pass (Lowering shut index) (Lowering shut (index + 1)) noted kept l (omega arith) h h.now
+  silent (closed_quietly shut) noted kept l = λ h e. pass (Shutting shut) (Lanes 0) noted kept l (omega arith) h (λ some. absurd (h.now some))
+  silent (closed_kicks shut) noted kept l = λ h e. absurd (no_socket shut e.1)
 
   law : IsLaw c a Q At Asked (λ kept l. Unit {0})
-  law = record { calls = calls; entries = entries; passes = passes; ends = λ noted kept l done h. tt }
+  law = record { calls = calls; entries = entries; silent = silent; ends = λ noted kept l done h. tt }
 
 -- ---- the law
 

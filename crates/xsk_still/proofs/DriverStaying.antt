@@ -17,7 +17,7 @@ use Rattle.xsk_turns.specs.Wakes.{IsParked}
 use Rattle.xsk_turns.specs.declared.wire.Wire.{Wire}
 use Rattle.xsk_turns.proofs.Counting.{four_classes}
 use Rattle.xsk_turns.proofs.Walks.{Premise, nothing_due, submit_due, release_due}
-use Rattle.xsk_turns.proofs.DriverPlaces.{Place, Starting, Acking, Receiving, Trying, Lacking, Sending, Idling, Arming, Which, Turning, Again, Parked, Woken, Disarming, Family, Said, AtCalls, AtEntries, AtPasses, IsLaw, GoesOnAtOnce, LookClosing, TellAcked, TellRxDone, TellBounced, LookCell, PeekFill, ReleaseFill, ReserveRx, SubmitRx, ReserveComp, SubmitComp, PeekTx, ReleaseTx, LookTxDone, TellGone, ArmFill, ArmTx, LookEnd, LookKick, ClearKick, DisarmFill, DisarmTx, saw_fed, saw_closed, told_acked, told_rx_done, told_bounced, looked_none, looked_long, looked_some, fill_empty, fill_items, fill_released, rx_granted, rx_full, rx_submitted, comp_granted, comp_full, comp_submitted, tx_empty, tx_items, tx_released, looked_tx_done, armed_fill, armed_tx, found_end, found_none, kicked, not_kicked, cleared_kick, disarmed_fill, disarmed_tx, receives as starts, untried, none_comes, too_few, waits, drops_full, drops_frameless, visited, idles, arms, seeks, sought, misses, looks, finds, parks, disarmed}
+use Rattle.xsk_turns.proofs.DriverStages.{Stage, Starting, Acking, Receiving, Trying, Lacking, Sending, Idling, Arming, Which, Turning, Again, Parked, Woken, Disarming, Family, Said, AtCalls, AtEntries, AtSilent, IsLaw, GoesOnAtOnce, LookClosing, TellAcked, TellRxDone, TellBounced, LookCell, PeekFill, ReleaseFill, ReserveRx, SubmitRx, ReserveComp, SubmitComp, PeekTx, ReleaseTx, LookTxDone, TellGone, ArmFill, ArmTx, LookEnd, LookKick, ClearKick, DisarmFill, DisarmTx, saw_fed, saw_closed, told_acked, told_rx_done, told_bounced, looked_none, looked_long, looked_some, fill_empty, fill_items, fill_released, rx_granted, rx_full, rx_submitted, comp_granted, comp_full, comp_submitted, tx_empty, tx_items, tx_released, looked_tx_done, armed_fill, armed_tx, found_end, found_none, kicked, not_kicked, cleared_kick, disarmed_fill, disarmed_tx, receives as starts, untried, none_comes, too_few, waits, drops_full, drops_frameless, visited, idles, arms, seeks, sought, misses, looks, finds, parks, disarmed}
 use Rattle.xsk_turns.proofs.DriverWalk.{at_call}
 use Rattle.xsk_still.specs.Still.{IsEmpty, LacksRoom, IsStill, IsHeldUp, StaysBy}
 use Rattle.xsk_still.specs.Own.{IsFree, DriverStays}
@@ -115,7 +115,7 @@ module _ (wire : Wire) (c : Config) (d : ℕ) (is : IsSeat c d) (closes : c.clos
   abbrev LooksAgain : Noted → Type 0
   LooksAgain noted = (noted.progress ≡ false) × (first_flag ≡ 1)
 
-  abbrev Found : Place → Noted → Kept → Type 0
+  abbrev Found : Stage → Noted → Kept → Type 0
   Found Starting noted kept = (noted.progress ≡ false) × (noted.full ≡ false)
   Found Receiving noted kept = (noted.progress ≡ false) × (noted.full ≡ false)
   Found (Trying Turning packet s nothing_due) noted kept = (noted.progress ≡ false) × (noted.full ≡ false) × (redirect_to c seat.port seat.queue (cell packet) ≡ Some s)
@@ -134,7 +134,7 @@ module _ (wire : Wire) (c : Config) (d : ℕ) (is : IsSeat c d) (closes : c.clos
   Found place noted kept = Unit {0}
 
   -- what hangs on no count of packets: nothing is due, and it doesn't clear a flag that it set in the stretch
-  abbrev Sure : Place → Kept → Type 0
+  abbrev Sure : Stage → Kept → Type 0
   Sure (Trying look packet s nothing_due) kept = Unit {0}
   Sure (Trying look packet s due) kept = ⊥
   Sure (Sending look k nothing_due) kept = look ≡ Turning → 1 ≤ k → length kept.disposals ≡ count
@@ -149,7 +149,7 @@ module _ (wire : Wire) (c : Config) (d : ℕ) (is : IsSeat c d) (closes : c.clos
   later Turning = 0
   later Again = 11
 
-  abbrev before : Place → ℕ
+  abbrev before : Stage → ℕ
   before Starting = 0
   before Acking = 1
   before Receiving = 0
@@ -163,7 +163,7 @@ module _ (wire : Wire) (c : Config) (d : ℕ) (is : IsSeat c d) (closes : c.clos
   before (Disarming true k) = 20
   before (Disarming false k) = 21 + k
 
-  abbrev Within : Place → Type 0
+  abbrev Within : Stage → Type 0
   Within (Sending look k due) = k ≤ classes_of c
   Within (Arming k) = k ≤ classes_of c
   Within (Disarming frames k) = k ≤ classes_of c
@@ -177,7 +177,7 @@ module _ (wire : Wire) (c : Config) (d : ℕ) (is : IsSeat c d) (closes : c.clos
   abbrev Waits : Kept → Type 0
   Waits kept = kept.coming ≡ [] → kept.finished ≡ [] → mark_at c x (TxDone (application_of seat)) ≢ 1
 
-  record Stands (place : Place) (noted : Noted) (kept : Kept) (l : List Told) : Type 0 where
+  record Stands (place : Stage) (noted : Noted) (kept : Kept) (l : List Told) : Type 0 where
     pub turns : ℕ
     pub few : length l ≤ m + spent turns + before place
     pub within : Within place
@@ -195,7 +195,7 @@ module _ (wire : Wire) (c : Config) (d : ℕ) (is : IsSeat c d) (closes : c.clos
   abbrev Asked : Said
   Asked kept call l = m + 64 ≤ length l → IsFree call × ((IsParked d l × (is_some kept.parked ≡ true)) ⊎ (FactsOf kept × Waits kept))
 
-  early : (place : Place) (noted : Noted) (kept : Kept) (l : List Told) → length l ≤ m → Within place → Stands place noted kept l
+  early : (place : Stage) (noted : Noted) (kept : Kept) (l : List Told) → length l ≤ m → Within place → Stands place noted kept l
   early place noted kept l few within = record {
     turns = 0;
     few = omega (arith, few);
@@ -211,16 +211,16 @@ module _ (wire : Wire) (c : Config) (d : ℕ) (is : IsSeat c d) (closes : c.clos
   by_stretch : {A : Type 0} (l : List Told) → (length l < m → A) → (m ≤ length l → A) → A
   by_stretch l f g = ⊎_elim (λ (lt : length l < m). f lt) (λ (ge : m ≤ length l). g ge) (cases_lt (length l) m)
 
-  first : (next : Place) (noted : Noted) (kept : Kept) (l : List Told) (call : Call) (reply : Reply) → length l < m → Within next → Stands next noted kept (with_told l call reply)
+  first : (next : Stage) (noted : Noted) (kept : Kept) (l : List Told) (call : Call) (reply : Reply) → length l < m → Within next → Stands next noted kept (with_told l call reply)
   first next noted kept l call reply lt within = early next noted kept (with_told l call reply) (omega (arith, lt, longer l call reply)) within
 
-  moves : (next : Place) (noted : Noted) (now kept : Kept) (l : List Told) (call : Call) (reply : Reply) → changes call reply ≡ true → Q now l call reply → Within next
+  moves : (next : Stage) (noted : Noted) (now kept : Kept) (l : List Told) (call : Call) (reply : Reply) → changes call reply ≡ true → Q now l call reply → Within next
       → Stands next noted kept (with_told l call reply)
   moves next noted now kept l call reply e q within =
       by_stretch l (λ lt. first next noted kept l call reply lt within) (λ ge. absurd (let off : true ≡ false = sym e ∙ (q.1 ge).quiet in cc))
 
   -- an entry of the stretch
-  step : (place next : Place) (noted after : Noted) (kept now : Kept) (l : List Told) (call : Call) (reply : Reply) → before place + 1 ≤ before next → Within next → (h : Stands place noted kept l)
+  step : (place next : Stage) (noted after : Noted) (kept now : Kept) (l : List Told) (call : Call) (reply : Reply) → before place + 1 ≤ before next → Within next → (h : Stands place noted kept l)
       → count ≤ length now.disposals → m ≤ length l → (1 ≤ h.turns → Sure next now) → (1 ≤ h.turns → length now.disposals ≡ count → Found next after now) → (2 ≤ h.turns → Known now)
       → (3 ≤ h.turns → Waits now) → Stands next after now (with_told l call reply)
   step place next noted after kept now l call reply fits within h more in_it sure found known last = record {
@@ -236,12 +236,12 @@ module _ (wire : Wire) (c : Config) (d : ℕ) (is : IsSeat c d) (closes : c.clos
   }
 
   -- one that leaves what is kept of frames and packets
-  same : (place next : Place) (noted : Noted) (kept : Kept) (l : List Told) (call : Call) (reply : Reply) → before place + 1 ≤ before next → Within next → (h : Stands place noted kept l)
+  same : (place next : Stage) (noted : Noted) (kept : Kept) (l : List Told) (call : Call) (reply : Reply) → before place + 1 ≤ before next → Within next → (h : Stands place noted kept l)
       → (q : IsAnswered kept call reply) → m ≤ length l → (1 ≤ h.turns → Sure next kept) → (1 ≤ h.turns → Found next noted kept) → Stands next noted kept (with_told l call reply)
   same place next noted kept l call reply fits within h q in_it sure found =
       step place next noted noted kept kept l call reply fits within h (omega (arith, q.settled)) in_it sure (λ some e. found some) h.known h.ends
 
-  pass : (place next : Place) (noted after : Noted) (kept now : Kept) (l : List Told) → before place ≤ before next → Within next → (h : Stands place noted kept l) → length kept.disposals ≤ length now.disposals
+  pass : (place next : Stage) (noted after : Noted) (kept now : Kept) (l : List Told) → before place ≤ before next → Within next → (h : Stands place noted kept l) → length kept.disposals ≤ length now.disposals
       → (1 ≤ h.turns → Sure next now) → (1 ≤ h.turns → length now.disposals ≡ count → Found next after now) → (2 ≤ h.turns → Known now) → (3 ≤ h.turns → Waits now) → Stands next after now l
   pass place next noted after kept now l fits within h more sure found known last = record {
     turns = h.turns;
@@ -260,7 +260,7 @@ module _ (wire : Wire) (c : Config) (d : ℕ) (is : IsSeat c d) (closes : c.clos
   spent_more (suc t) = omega arith
 
   -- at the end there are three turns or more
-  many : (place : Place) (noted : Noted) (kept : Kept) (l : List Told) → before place ≤ 25 → m + 64 ≤ length l → (h : Stands place noted kept l) → 3 ≤ h.turns
+  many : (place : Stage) (noted : Noted) (kept : Kept) (l : List Told) → before place ≤ 25 → m + 64 ≤ length l → (h : Stands place noted kept l) → 3 ≤ h.turns
   many place noted kept l small long h = by h.turns h.few
     where
       by : (t : ℕ) → length l ≤ m + spent t + before place → 3 ≤ t
@@ -269,7 +269,7 @@ module _ (wire : Wire) (c : Config) (d : ℕ) (is : IsSeat c d) (closes : c.clos
       by (suc (suc zero)) f = absurd (omega (arith, f, small, long))
       by (suc (suc (suc t))) f = omega arith
 
-  reasons : (place : Place) (noted : Noted) (kept : Kept) (l : List Told) → before place ≤ 25 → m + 64 ≤ length l → Stands place noted kept l → FactsOf kept × Waits kept
+  reasons : (place : Stage) (noted : Noted) (kept : Kept) (l : List Told) → before place ≤ 25 → m + 64 ≤ length l → Stands place noted kept l → FactsOf kept × Waits kept
   reasons place noted kept l small long h =
       let three = many place noted kept l small long h in ((h.known (omega (arith, three))).facts, h.ends three)
 
@@ -544,41 +544,41 @@ module _ (wire : Wire) (c : Config) (d : ℕ) (is : IsSeat c d) (closes : c.clos
   none_full : (noted : Noted) → noted.progress ≡ false → (noted.progress || noted.full) ≡ true → noted.full ≡ true
   none_full noted e f = sym (ap (λ b. b || noted.full) e) ∙ f
 
-  passes : AtPasses seat Q At
-  passes starts noted kept l = λ h e. pass Starting Receiving noted noted kept kept l (omega arith) tt h (omega arith) (λ some. tt) h.now h.known h.ends
-  passes (untried packet later y) noted kept l = λ h e.
+  silent : AtSilent seat Q At
+  silent starts noted kept l = λ h e. pass Starting Receiving noted noted kept kept l (omega arith) tt h (omega arith) (λ some. tt) h.now h.known h.ends
+  silent (untried packet later y) noted kept l = λ h e.
       let more = one_longer kept y in
       let un : 2 ≤ h.turns → ⊥ = λ two. against kept packet later e.0
       (λ held s. let off : None ≡ Some y = sym held.tried ∙ ap (disposal_untried seat) s ∙ e.1 in cc) (h.known two).facts.receives in
       pass Receiving Receiving noted _ kept _ l (omega arith) tt h (omega (arith, more)) (λ some. tt)
       (λ some n. absurd (omega (arith, n, more, h.least (h.inside some)))) (λ two. absurd (un two)) (λ three. absurd (un (omega (arith, three))))
-  passes none_comes noted kept l = λ h e. pass Receiving (Sending Turning 0 nothing_due) noted noted kept kept l (omega arith) (omega arith) h (omega arith) (λ some turns zero. absurd (omega (arith, zero)))
+  silent none_comes noted kept l = λ h e. pass Receiving (Sending Turning 0 nothing_due) noted noted kept kept l (omega arith) (omega arith) h (omega arith) (λ some turns zero. absurd (omega (arith, zero)))
       (λ some n. let f = h.now some n in ((f.0, inl e, λ full. let off : false ≡ true = sym f.1 ∙ full in cc), λ j below. absurd (omega (arith, below)))) h.known h.ends
-  passes (too_few packet s) noted kept l = λ h e. pass (Trying Turning packet s nothing_due) (Lacking Turning packet s false) noted noted kept kept l (omega arith) tt h (omega arith) (λ some. tt)
+  silent (too_few packet s) noted kept l = λ h e. pass (Trying Turning packet s nothing_due) (Lacking Turning packet s false) noted noted kept kept l (omega arith) tt h (omega arith) (λ some. tt)
       (λ some n. let f = h.now some n in let off : false ≡ true = sym f.0 ∙ e.1 in cc) h.known h.ends
-  passes (waits packet s true) noted kept l = λ h e. pass (Lacking Turning packet s true) (Sending Turning 0 nothing_due) noted _ kept kept l (omega arith) (omega arith) h (omega arith) (λ some turns zero. absurd (omega (arith, zero)))
+  silent (waits packet s true) noted kept l = λ h e. pass (Lacking Turning packet s true) (Sending Turning 0 nothing_due) noted _ kept kept l (omega arith) (omega arith) h (omega arith) (λ some turns zero. absurd (omega (arith, zero)))
       (λ some n.
       let f = h.now some n in
       let held : HeldUp kept.coming kept.spare = record { packet = packet; later = e.0.next.later; next = e.0.next.is; tried = e.0.next.none; stays = e.0.next.stays; fits = e.0.fits; socket = s; target = f.1; waits = e.1; why = inl f.2 } in
       ((f.0, inr held, λ full none. let off : packet ∷ e.0.next.later ≡ [] = sym e.0.next.is ∙ none in cc), λ j below. absurd (omega (arith, below)))) h.known h.ends
-  passes (waits packet s false) noted kept l = λ h e. pass (Lacking Turning packet s false) (Sending Turning 0 nothing_due) noted _ kept kept l (omega arith) (omega arith) h (omega arith) (λ some turns zero. absurd (omega (arith, zero)))
+  silent (waits packet s false) noted kept l = λ h e. pass (Lacking Turning packet s false) (Sending Turning 0 nothing_due) noted _ kept kept l (omega arith) (omega arith) h (omega arith) (λ some turns zero. absurd (omega (arith, zero)))
       (λ some n.
       let f = h.now some n in
       let held : HeldUp kept.coming kept.spare = record { packet = packet; later = e.0.next.later; next = e.0.next.is; tried = e.0.next.none; stays = e.0.next.stays; fits = e.0.fits; socket = s; target = f.2; waits = e.1; why = inr (f.3, f.4) } in
       ((f.0, inr held, λ full none. let off : packet ∷ e.0.next.later ≡ [] = sym e.0.next.is ∙ none in cc), λ j below. absurd (omega (arith, below)))) h.known h.ends
-  passes (drops_full packet s) noted kept l = λ h e.
+  silent (drops_full packet s) noted kept l = λ h e.
       let more = one_longer kept RxFull in
       let un : 2 ≤ h.turns → ⊥ = λ two. against kept packet e.0.next.later e.0.next.is (λ held s. let off : false ≡ true = sym held.waits ∙ e.1 in cc) (h.known two).facts.receives in
       pass (Lacking Turning packet s true) (Sending Turning 0 nothing_due) noted _ kept _ l (omega arith) (omega arith) h (omega (arith, more)) (λ some turns zero. absurd (omega (arith, zero)))
       (λ some n. absurd (omega (arith, n, more, h.least (h.inside some)))) (λ two. absurd (un two)) (λ three. absurd (un (omega (arith, three))))
-  passes (drops_frameless packet s) noted kept l = λ h e.
+  silent (drops_frameless packet s) noted kept l = λ h e.
       let more = one_longer kept NoFrames in
       let un : 2 ≤ h.turns → ⊥ = λ two. against kept packet e.0.next.later e.0.next.is (λ held s. let off : false ≡ true = sym held.waits ∙ e.1 in cc) (h.known two).facts.receives in
       pass (Lacking Turning packet s false) (Sending Turning 0 nothing_due) noted _ kept _ l (omega arith) (omega arith) h (omega (arith, more)) (λ some turns zero. absurd (omega (arith, zero)))
       (λ some n. absurd (omega (arith, n, more, h.least (h.inside some)))) (λ two. absurd (un two)) (λ three. absurd (un (omega (arith, three))))
-  passes visited noted kept l = λ h none. pass (Sending Turning seat.classes nothing_due) Idling noted noted kept kept l (omega (arith, four)) tt h (omega arith) (λ some. h.sure some refl some_class)
+  silent visited noted kept l = λ h none. pass (Sending Turning seat.classes nothing_due) Idling noted noted kept kept l (omega (arith, four)) tt h (omega arith) (λ some. h.sure some refl some_class)
       (λ some n. let f = h.now some n in (f.0.0, f.0.1, inl (none, f.1), λ full gone. absurd (f.0.2 full gone))) h.known h.ends
-  passes idles noted kept l = λ h e. ⊎_elim
+  silent idles noted kept l = λ h e. ⊎_elim
       (λ (in_it : m < length l). record {
         turns = suc h.turns;
         few = omega (arith, h.few, spent_more h.turns);
@@ -603,19 +603,19 @@ module _ (wire : Wire) (c : Config) (d : ℕ) (is : IsSeat c d) (closes : c.clos
       not_at_once noted kept f none fin (inr e) = ⊎_elim
           (λ (r : (kept.coming ≡ []) × (kept.rx_done ≡ true)). let off : false ≡ true = sym e.2 ∙ r.1 in cc)
           (λ (held : HeldUp kept.coming kept.spare). let off : held.packet ∷ held.later ≡ [] = sym held.next ∙ none in cc) f.1
-  passes arms noted kept l = λ h e. pass Idling (Arming 0) noted noted kept kept l (omega arith) (omega arith) h (omega arith) (λ some. tt)
+  silent arms noted kept l = λ h e. pass Idling (Arming 0) noted noted kept kept l (omega arith) (omega arith) h (omega arith) (λ some. tt)
       (λ some n. ((h.now some n).0, λ zero. absurd (omega (arith, zero)))) h.known h.ends
-  passes (seeks packet s) noted kept l = λ h e. pass (Arming seat.classes) (Trying Again packet s nothing_due) noted noted kept kept l (omega (arith, four)) tt h (omega arith) (λ some. tt)
+  silent (seeks packet s) noted kept l = λ h e. pass (Arming seat.classes) (Trying Again packet s nothing_due) noted noted kept kept l (omega (arith, four)) tt h (omega arith) (λ some. tt)
       (λ some n. let f = h.now some n in (f.0, f.1 some_class)) h.known h.ends
-  passes (sought packet s) noted kept l = λ h e. pass (Trying Again packet s nothing_due) (Sending Again 0 nothing_due) noted noted kept kept l (omega arith) (omega arith) h (omega arith) (λ some no. absurd (cc)) h.now h.known h.ends
-  passes (misses packet s) noted kept l = λ h e. pass (Lacking Again packet s false) (Sending Again 0 nothing_due) noted noted kept kept l (omega arith) (omega arith) h (omega arith) (λ some no. absurd (cc)) h.now h.known h.ends
-  passes looks noted kept l = λ h e. pass (Arming seat.classes) (Sending Again 0 nothing_due) noted noted kept kept l (omega (arith, four)) (omega arith) h (omega arith) (λ some no. absurd (cc))
+  silent (sought packet s) noted kept l = λ h e. pass (Trying Again packet s nothing_due) (Sending Again 0 nothing_due) noted noted kept kept l (omega arith) (omega arith) h (omega arith) (λ some no. absurd (cc)) h.now h.known h.ends
+  silent (misses packet s) noted kept l = λ h e. pass (Lacking Again packet s false) (Sending Again 0 nothing_due) noted noted kept kept l (omega arith) (omega arith) h (omega arith) (λ some no. absurd (cc)) h.now h.known h.ends
+  silent looks noted kept l = λ h e. pass (Arming seat.classes) (Sending Again 0 nothing_due) noted noted kept kept l (omega (arith, four)) (omega arith) h (omega arith) (λ some no. absurd (cc))
       (λ some n. let f = h.now some n in (f.0, f.1 some_class)) h.known h.ends
-  passes finds noted kept l = λ h e. pass (Sending Again seat.classes nothing_due) (Disarming (awaits noted) 0) noted noted kept kept l (omega (arith, four, flag_fits (awaits noted))) (omega arith) h (omega arith) (λ some. refl)
+  silent finds noted kept l = λ h e. pass (Sending Again seat.classes nothing_due) (Disarming (awaits noted) 0) noted noted kept kept l (omega (arith, four, flag_fits (awaits noted))) (omega arith) h (omega arith) (λ some. refl)
       (λ some n. let f = h.now some n in let off : false ≡ true = sym f.0 ∙ e in cc) h.known h.ends
-  passes parks noted kept l = λ h e. inl (pass (Sending Again seat.classes nothing_due) (Parked (awaits noted)) noted _ kept _ l (omega (arith, four)) tt h (omega arith) (λ some. tt) (λ some n. tt)
+  silent parks noted kept l = λ h e. inl (pass (Sending Again seat.classes nothing_due) (Parked (awaits noted)) noted _ kept _ l (omega (arith, four)) tt h (omega arith) (λ some. tt) (λ some n. tt)
       (λ two. let k = h.known two in record { facts = k.facts; settled = k.settled; asked = k.asked }) h.ends)
-  passes disarmed noted kept l = λ h e. ⊎_elim
+  silent disarmed noted kept l = λ h e. ⊎_elim
       (λ (in_it : m < length l).
       let zero_turns : h.turns ≡ 0 = by h.turns h.sure in
       record {
@@ -637,7 +637,7 @@ module _ (wire : Wire) (c : Config) (d : ℕ) (is : IsSeat c d) (closes : c.clos
       by (suc t) f = absurd (omega (arith, f (omega arith), some_class))
 
   law : IsLaw seat Q At Asked (λ kept l. Unit {0})
-  law = record { calls = calls; entries = entries; passes = passes; ends = λ noted kept l n known h a q. tt }
+  law = record { calls = calls; entries = entries; silent = silent; ends = λ noted kept l n known h a q. tt }
 
   -- ---- in the words of the law
 

@@ -10,7 +10,7 @@ use Rattle.xsk_turns.proofs.Mangling.{length-given}
 use Rattle.xsk_turns.specs.AppTurns.{AppKept, AppNoted, pending_at, app_turn, app_start}
 use Rattle.xsk_turns.proofs.Layouts.{length-laid_out}
 use Rattle.xsk_turns.proofs.Walks.{Due, nothing_due, submit_due, release_due, Anything, meet_anything}
-use Rattle.xsk_turns.proofs.DriverPlaces as walk
+use Rattle.xsk_turns.proofs.DriverStages as walk
 use Rattle.xsk_turns.proofs.DriverWalk as along
 use Rattle.xsk_turns.proofs.AppWalk as app
 use Rattle.xsk_turns.proofs.Acknowledging.{room_now, held_now}
@@ -84,7 +84,7 @@ released_due l q n h r = (
 
 -- ---- a driver
 
-abbrev due_at : walk.Place → Due
+abbrev due_at : walk.Stage → Due
 due_at (walk.Trying look packet s due) = due
 due_at (walk.Sending look k due) = due
 due_at place = nothing_due
@@ -116,12 +116,12 @@ module _ (seat : Seat) where
   entries (walk.tx_released look k n) noted kept l known found h a q = released_due l _ n h
   entries e noted kept l known found h a q = still_due nothing_due l (walk.call_at seat (walk.point_of e) kept) (walk.reply_of e) refl refl refl refl h
 
-  passes : walk.AtPasses seat Anything At
-  passes walk.none_comes noted kept l = λ h e. h
-  passes p noted kept l = λ h e. h
+  silent : walk.AtSilent seat Anything At
+  silent walk.none_comes noted kept l = λ h e. h
+  silent p noted kept l = λ h e. h
 
   law : walk.IsLaw seat Anything At Asked (λ kept l. HasNothingDue l)
-  law = record { calls = calls; entries = entries; passes = passes; ends = λ noted kept l n known h a q. still_due nothing_due l _ (Old n) refl refl refl refl h }
+  law = record { calls = calls; entries = entries; silent = silent; ends = λ noted kept l n known h a q. still_due nothing_due l _ (Old n) refl refl refl refl h }
 
 none_due : HasNothingDue []
 none_due r = (refl, refl)
@@ -142,7 +142,7 @@ abbrev AppAsked : app.Said
 AppAsked kept call l = IsFree call → HasNothingDue l
 
 -- a place of which nothing is due, on to which it goes once drivers are woken
-abbrev IsClear : app.Place → Type 0
+abbrev IsClear : app.Stage → Type 0
 IsClear (app.Lane lane nothing_due) = Unit {0}
 IsClear (app.Lane lane due) = ⊥
 IsClear (app.Side side nothing_due) = Unit {0}
@@ -163,7 +163,7 @@ ClearAt (app.Side side due) noted kept l = IsDueOn due l
 ClearAt (app.Draining lane due) noted kept l = IsDueOn due l
 ClearAt place noted kept l = HasNothingDue l
 
-clear_at : (place : app.Place) (noted : AppNoted) (kept : AppKept) (l : List Told) → IsClear place → HasNothingDue l → ClearAt place noted kept l
+clear_at : (place : app.Stage) (noted : AppNoted) (kept : AppKept) (l : List Told) → IsClear place → HasNothingDue l → ClearAt place noted kept l
 clear_at (app.Lane lane nothing_due) noted kept l is h = h
 clear_at (app.Lane lane (submit_due q n)) noted kept l is h = absurd is
 clear_at (app.Lane lane (release_due q n)) noted kept l is h = absurd is
@@ -205,16 +205,16 @@ module _ (c : Config) (a : ℕ) where
   app_entries (app.kicked place pair n) noted kept l known h said q = clear_at place noted kept _ h.1 (still_due nothing_due l (Swap (Kick pair) 1) (Old n) refl refl refl refl h.0)
   app_entries e noted kept l known h said q = still_due nothing_due l (app.call_at c a (app.point_of e) kept) (app.reply_of e) refl refl refl refl h
 
-  app_passes : app.AtPasses c a ClearAt
-  app_passes (app.without_need place need pair) noted kept l = λ h e. clear_at place noted kept l h.1 h.0
-  app_passes (app.needs_none place need pair n) noted kept l = λ h e. clear_at place noted kept l h.1 h.0
-  app_passes (app.needs_kick place need pair n) noted kept l = λ h e. h
-  app_passes app.told_both noted kept l = λ h e. (h, tt)
-  app_passes (app.closed_kicks shut) noted kept l = λ h e. (h, tt)
-  app_passes p noted kept l = λ h e. h
+  app_silent : app.AtSilent c a ClearAt
+  app_silent (app.without_need place need pair) noted kept l = λ h e. clear_at place noted kept l h.1 h.0
+  app_silent (app.needs_none place need pair n) noted kept l = λ h e. clear_at place noted kept l h.1 h.0
+  app_silent (app.needs_kick place need pair n) noted kept l = λ h e. h
+  app_silent app.told_both noted kept l = λ h e. (h, tt)
+  app_silent (app.closed_kicks shut) noted kept l = λ h e. (h, tt)
+  app_silent p noted kept l = λ h e. h
 
   app_law : app.IsLaw c a Anything ClearAt AppAsked (λ kept l. HasNothingDue l)
-  app_law = record { calls = app_calls; entries = app_entries; passes = app_passes; ends = λ noted kept l done h. h }
+  app_law = record { calls = app_calls; entries = app_entries; silent = app_silent; ends = λ noted kept l done h. h }
 
 pub app_is_free : AppIsFree
 app_is_free c a l kept call rest one fit asks =

@@ -12,7 +12,7 @@ use Rattle.xsk_turns.specs.declared.wire.Wire.{Wire}
 use Rattle.xsk_turns.proofs.Owned.{peeked_none, sockets_apart}
 use Rattle.xsk_turns.proofs.Owning.{no_group}
 use Rattle.xsk_turns.proofs.Walks.{Anything, meet_anything}
-use Rattle.xsk_turns.proofs.DriverPlaces as walk
+use Rattle.xsk_turns.proofs.DriverStages as walk
 use Rattle.xsk_turns.proofs.DriverWalk as along
 use Rattle.xsk_still.specs.Own.{LosesNone}
 
@@ -135,12 +135,12 @@ module _ (wire : Wire) (c : Config) (d : ℕ) where
       still kept.groups kept.lost l (walk.call_at seat (walk.point_of e) kept) (walk.reply_of e)
       (λ class. peeked_none (Tx (tx class)) l (walk.call_at seat (walk.point_of e) kept) (walk.reply_of e) refl) h
 
-  passes : walk.AtPasses seat Anything At
-  passes walk.none_comes noted kept l = λ h e. h
-  passes p noted kept l = λ h e. h
+  silent : walk.AtSilent seat Anything At
+  silent walk.none_comes noted kept l = λ h e. h
+  silent p noted kept l = λ h e. h
 
   law : walk.IsLaw seat Anything At Said Nothing
-  law = record { calls = calls; entries = entries; passes = passes; ends = λ noted kept l n known h a q. tt }
+  law = record { calls = calls; entries = entries; silent = silent; ends = λ noted kept l n known h a q. tt }
 
 pub loses_none : LosesNone
 loses_none wire c d input l kept call rest is fit asks none =

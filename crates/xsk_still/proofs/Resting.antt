@@ -11,7 +11,7 @@ use Rattle.xsk_turns.proofs.Layouts.{few_pieces}
 use Rattle.xsk_turns.proofs.Parking.{parked_looks}
 use Rattle.xsk_turns.proofs.Walks.{Anything, meet_anything}
 use Rattle.xsk_turns.proofs.Watching.{watching_told, swaps, set_stays, set_now, is_true}
-use Rattle.xsk_turns.proofs.DriverPlaces as walk
+use Rattle.xsk_turns.proofs.DriverStages as walk
 use Rattle.xsk_turns.proofs.DriverWalk as along
 use Rattle.xsk_still.specs.Own.{ParkedRests}
 
@@ -39,7 +39,7 @@ module _ (seat : Seat) where
   abbrev fill : List Told → Bool
   fill l = (watching_of (NeedFill seat.pair) (Fill seat.pair) (Kick seat.pair) l).set
 
-  abbrev flag_at : walk.Place → Noted → Bool
+  abbrev flag_at : walk.Stage → Noted → Bool
   flag_at (walk.Arming k) noted = awaits noted
   flag_at (walk.Trying walk.Again packet s due) noted = true
   flag_at (walk.Lacking walk.Again packet s full) noted = true
@@ -86,15 +86,15 @@ module _ (seat : Seat) where
   fill_entries (walk.tx_released walk.Again k n) noted kept l known found h a q = same l _ _ (awaits noted) refl h
   fill_entries e noted kept l known found h a q = same l (walk.call_at seat (walk.point_of e) kept) (walk.reply_of e) _ refl h
 
-  fill_passes : walk.AtPasses seat Anything FillAt
-  fill_passes walk.arms noted kept l = λ h e. h ∙ sym e.1
-  fill_passes (walk.seeks packet s) noted kept l = λ h e. h ∙ e.1
-  fill_passes (walk.sought packet s) noted kept l = λ h e. h ∙ sym e.0
-  fill_passes (walk.misses packet s) noted kept l = λ h e. h ∙ sym e
-  fill_passes p noted kept l = λ h e. h
+  fill_silent : walk.AtSilent seat Anything FillAt
+  fill_silent walk.arms noted kept l = λ h e. h ∙ sym e.1
+  fill_silent (walk.seeks packet s) noted kept l = λ h e. h ∙ e.1
+  fill_silent (walk.sought packet s) noted kept l = λ h e. h ∙ sym e.0
+  fill_silent (walk.misses packet s) noted kept l = λ h e. h ∙ sym e
+  fill_silent p noted kept l = λ h e. h
 
   fill_law : walk.IsLaw seat Anything FillAt FillAsked Nothing
-  fill_law = record { calls = fill_calls; entries = fill_entries; passes = fill_passes; ends = λ noted kept l n known h a q. tt }
+  fill_law = record { calls = fill_calls; entries = fill_entries; silent = fill_silent; ends = λ noted kept l n known h a q. tt }
 
   -- ---- the flags of the TX rings
 
@@ -152,13 +152,13 @@ module _ (seat : Seat) where
   tx_entries (walk.not_kicked frames n) noted kept l known found h a q = stay seat.classes l _ (Old n) (λ class. refl) h
   tx_entries e noted kept l known found h a q = tt
 
-  tx_passes : walk.AtPasses seat Anything TxAt
-  tx_passes walk.arms noted kept l = λ h e. (e.4, λ class below. absurd (omega (arith, below)))
-  tx_passes walk.finds noted kept l = λ h e. tt
-  tx_passes p noted kept l = λ h e. h
+  tx_silent : walk.AtSilent seat Anything TxAt
+  tx_silent walk.arms noted kept l = λ h e. (e.4, λ class below. absurd (omega (arith, below)))
+  tx_silent walk.finds noted kept l = λ h e. tt
+  tx_silent p noted kept l = λ h e. h
 
   tx_law : walk.IsLaw seat Anything TxAt TxAsked Nothing
-  tx_law = record { calls = tx_calls; entries = tx_entries; passes = tx_passes; ends = λ noted kept l n known h a q. tt }
+  tx_law = record { calls = tx_calls; entries = tx_entries; silent = tx_silent; ends = λ noted kept l n known h a q. tt }
 
 -- ---- what it waits for
 
@@ -237,25 +237,25 @@ module _ (wire : Wire) (c : Config) (pair : ℕ) (is : IsSeat c pair) where
   entries (walk.not_kicked frames n) noted kept l known found h a q = h
   entries e noted kept l known found h a q = tt
 
-  passes : walk.AtPasses here Anything At
-  passes walk.none_comes noted kept l = λ h e p f w. e
-  passes (walk.too_few packet s) noted kept l = λ h e p. not_both noted.progress e.1 p
-  passes (walk.waits packet s true) noted kept l = λ h e p f. absurd (cc)
-  passes (walk.waits packet s false) noted kept l = λ h e p f w.
+  silent : walk.AtSilent here Anything At
+  silent walk.none_comes noted kept l = λ h e p f w. e
+  silent (walk.too_few packet s) noted kept l = λ h e p. not_both noted.progress e.1 p
+  silent (walk.waits packet s true) noted kept l = λ h e p f. absurd (cc)
+  silent (walk.waits packet s false) noted kept l = λ h e p f w.
       let below = h p in not_both (awaits (record noted { lacking = pieces_of here packet.bytes - length kept.spare })) (lt-ltb 0 (pieces_of here packet.bytes - length kept.spare) (omega (arith, below))) w
-  passes (walk.drops_full packet s) noted kept l = λ h e p. absurd (cc)
-  passes (walk.drops_frameless packet s) noted kept l = λ h e p. absurd (cc)
-  passes walk.visited noted kept l = λ h e. (h, λ f. e)
-  passes walk.arms noted kept l = λ h e. (h.1 e.0, λ w. h.0 e.3 e.0 w)
-  passes (walk.seeks packet s) noted kept l = λ h e. h.0
-  passes (walk.sought packet s) noted kept l = λ h e p. not_both noted.progress e.1 p
-  passes (walk.misses packet s) noted kept l = λ h e p. (h.0, (λ w. not_both (awaits noted) e w), λ w. h.1)
-  passes walk.looks noted kept l = λ h e p. (h.0, h.1, λ w. not_both (awaits noted) w e)
-  passes walk.parks noted kept l = λ h e. h e.0
-  passes p noted kept l = λ h e. tt
+  silent (walk.drops_full packet s) noted kept l = λ h e p. absurd (cc)
+  silent (walk.drops_frameless packet s) noted kept l = λ h e p. absurd (cc)
+  silent walk.visited noted kept l = λ h e. (h, λ f. e)
+  silent walk.arms noted kept l = λ h e. (h.1 e.0, λ w. h.0 e.3 e.0 w)
+  silent (walk.seeks packet s) noted kept l = λ h e. h.0
+  silent (walk.sought packet s) noted kept l = λ h e p. not_both noted.progress e.1 p
+  silent (walk.misses packet s) noted kept l = λ h e p. (h.0, (λ w. not_both (awaits noted) e w), λ w. h.1)
+  silent walk.looks noted kept l = λ h e p. (h.0, h.1, λ w. not_both (awaits noted) w e)
+  silent walk.parks noted kept l = λ h e. h e.0
+  silent p noted kept l = λ h e. tt
 
   law : walk.IsLaw here Anything At Asked (Nothing here)
-  law = record { calls = calls; entries = entries; passes = passes; ends = λ noted kept l n known h a q. tt }
+  law = record { calls = calls; entries = entries; silent = silent; ends = λ noted kept l n known h a q. tt }
 
 pub parked_rests : ParkedRests
 parked_rests wire c d input l frames kept call rest is fit asks parked =

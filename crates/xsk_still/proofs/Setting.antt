@@ -12,7 +12,7 @@ use Rattle.xsk_turns.specs.AppTurns.{AppKept, AppNoted, app_turn, app_start, hom
 use Rattle.xsk_model.specs.declared.call.Mark.TheVariants.{Kick}
 use Rattle.xsk_turns.proofs.Owned.{none_submitted, other_submitted}
 use Rattle.xsk_turns.proofs.Walks.{Anything, meet_anything}
-use Rattle.xsk_turns.proofs.DriverPlaces as walk
+use Rattle.xsk_turns.proofs.DriverStages as walk
 use Rattle.xsk_turns.proofs.DriverWalk as along
 use Rattle.xsk_turns.proofs.AppWalk as app
 use Rattle.xsk_still.specs.Own.{SetsOne, SetsOnes, EndsSetOnce, AppSetsOnce, IsHomeItem, FillsHomes}
@@ -43,15 +43,15 @@ module _ (seat : Seat) where
   entries (walk.disarmed_tx k n) noted kept l known found h a q = both l _ (Old n) (λ e. let off : false ≡ true = e in cc) (λ e. let off : false ≡ true = e in cc) h
   entries e noted kept l known found h a q = both l (walk.call_at seat (walk.point_of e) kept) (walk.reply_of e) tt tt h
 
-  passes : walk.AtPasses seat Anything At
-  passes walk.none_comes noted kept l = λ h e. h
-  passes p noted kept l = λ h e. h
+  silent : walk.AtSilent seat Anything At
+  silent walk.none_comes noted kept l = λ h e. h
+  silent p noted kept l = λ h e. h
 
   calls : walk.AtCalls seat Anything At (λ kept call l. Ones l)
   calls p noted kept l known h = h
 
   law : walk.IsLaw seat Anything At (λ kept call l. Ones l) (λ kept l. Ones l)
-  law = record { calls = calls; entries = entries; passes = passes; ends = λ noted kept l n known h a q. both l (Swap (Gone seat.pair) 1) (Old n) (λ e. refl) (λ e. refl) h }
+  law = record { calls = calls; entries = entries; silent = silent; ends = λ noted kept l n known h a q. both l (Swap (Gone seat.pair) 1) (Old n) (λ e. refl) (λ e. refl) h }
 
 pub ends_set_once : EndsSetOnce
 ends_set_once wire c d input l run =
@@ -70,7 +70,7 @@ module _ (c : Config) (a : ℕ) where
   AppAt (app.Waking place need pair) noted kept l = Told1 l
   AppAt place noted kept l = Told1 l
 
-  told_at : (place : app.Place) (noted : AppNoted) (kept : AppKept) (l : List Told) → Told1 l → AppAt place noted kept l
+  told_at : (place : app.Stage) (noted : AppNoted) (kept : AppKept) (l : List Told) → Told1 l → AppAt place noted kept l
   told_at (app.Waking place need pair) noted kept l h = h
   told_at place noted kept l h = h
 
@@ -85,13 +85,13 @@ module _ (c : Config) (a : ℕ) where
   app_entries (app.kicked place pair n) noted kept l known h said q = told_at place noted kept _ (push (TxDone a) l _ (Old n) (λ e. refl) h)
   app_entries e noted kept l known h said q = push (TxDone a) l (app.call_at c a (app.point_of e) kept) (app.reply_of e) tt h
 
-  app_passes : app.AtPasses c a AppAt
-  app_passes (app.without_need place need pair) noted kept l = λ h e. told_at place noted kept l h
-  app_passes (app.needs_none place need pair n) noted kept l = λ h e. told_at place noted kept l h
-  app_passes p noted kept l = λ h e. h
+  app_silent : app.AtSilent c a AppAt
+  app_silent (app.without_need place need pair) noted kept l = λ h e. told_at place noted kept l h
+  app_silent (app.needs_none place need pair n) noted kept l = λ h e. told_at place noted kept l h
+  app_silent p noted kept l = λ h e. h
 
   app_law : app.IsLaw c a Anything AppAt (λ kept call l. Told1 l) (λ kept l. Told1 l)
-  app_law = record { calls = app_calls; entries = app_entries; passes = app_passes; ends = λ noted kept l done h. h }
+  app_law = record { calls = app_calls; entries = app_entries; silent = app_silent; ends = λ noted kept l done h. h }
 
 pub app_sets_once : AppSetsOnce
 app_sets_once c a l one run =
@@ -138,7 +138,7 @@ module _ (c : Config) (h : ℕ) where
     HomeAt (app.Waking place need pair) noted kept l = Homes l
     HomeAt place noted kept l = Homes l
 
-    home_at : (place : app.Place) (noted : AppNoted) (kept : AppKept) (l : List Told) → Homes l → HomeAt place noted kept l
+    home_at : (place : app.Stage) (noted : AppNoted) (kept : AppKept) (l : List Told) → Homes l → HomeAt place noted kept l
     home_at (app.Waking place need pair) noted kept l all = all
     home_at place noted kept l all = all
 
@@ -152,13 +152,13 @@ module _ (c : Config) (h : ℕ) where
     home_entries (app.kicked place pair n) noted kept l known all said q = home_at place noted kept _ (none l (Swap (Kick pair) 1) (Old n) refl all)
     home_entries e noted kept l known all said q = none l (app.call_at c a (app.point_of e) kept) (app.reply_of e) refl all
 
-    home_passes : app.AtPasses c a HomeAt
-    home_passes (app.without_need place need pair) noted kept l = λ all e. home_at place noted kept l all
-    home_passes (app.needs_none place need pair n) noted kept l = λ all e. home_at place noted kept l all
-    home_passes p noted kept l = λ all e. all
+    home_silent : app.AtSilent c a HomeAt
+    home_silent (app.without_need place need pair) noted kept l = λ all e. home_at place noted kept l all
+    home_silent (app.needs_none place need pair n) noted kept l = λ all e. home_at place noted kept l all
+    home_silent p noted kept l = λ all e. all
 
     home_law : app.IsLaw c a Anything HomeAt (λ kept call l. Homes l) (λ kept l. Homes l)
-    home_law = record { calls = home_calls; entries = home_entries; passes = home_passes; ends = λ noted kept l done all. all }
+    home_law = record { calls = home_calls; entries = home_entries; silent = home_silent; ends = λ noted kept l done all. all }
 
 pub fills_homes : FillsHomes
 fills_homes c a h l one run =

@@ -15,7 +15,7 @@ use Rattle.xsk_turns.proofs.Draining.{draining_told}
 use Rattle.xsk_turns.proofs.ReceivingLaws.{telling_told, now_told, and_off}
 use Rattle.xsk_turns.proofs.ScriptLemmas.{leaves_one}
 use Rattle.xsk_turns.proofs.Walks.{Law, Says, Anything, meet_anything, says_left}
-use Rattle.xsk_turns.proofs.DriverPlaces as walk
+use Rattle.xsk_turns.proofs.DriverStages as walk
 use Rattle.xsk_turns.proofs.DriverWalk as along
 use Rattle.xsk_turns.proofs.AppWalk as app
 use Rattle.xsk_still.specs.Own.{TellsGoneLast, SeesGone}
@@ -62,9 +62,9 @@ module _ (seat : Seat) (s : ℕ) where
   entries (walk.told_rx_done n) noted kept l known found h a q = untold (Gone seat.pair) (Comp s) l (Swap (RxDone seat.pair) 1) (Old n) refl h
   entries e noted kept l known found h a q = untold (Gone seat.pair) (Comp s) l (walk.call_at seat (walk.point_of e) kept) (walk.reply_of e) refl h
 
-  passes : walk.AtPasses seat Anything At
-  passes walk.none_comes noted kept l = λ h e. h
-  passes p noted kept l = λ h e. h
+  silent : walk.AtSilent seat Anything At
+  silent walk.none_comes noted kept l = λ h e. h
+  silent p noted kept l = λ h e. h
 
   ends : walk.AtEnd seat Anything At (λ kept call l. Not l) Last
   ends noted kept l n known h a q =
@@ -77,7 +77,7 @@ module _ (seat : Seat) (s : ℕ) where
   said kept call l = Not l
 
   is_law : walk.IsLaw seat Anything At said Last
-  is_law = record { calls = calls; entries = entries; passes = passes; ends = ends }
+  is_law = record { calls = calls; entries = entries; silent = silent; ends = ends }
 
   abbrev law : Law Kept
   law = record { begins = λ kept l. walk.Begins At kept l; asks = said; ends = Last }
@@ -266,9 +266,9 @@ module _ (c : Config) (a : ℕ) (one : IsApp c a) (side : ℕ) (below : side < 2
       (λ (f : side ≡ 0 → ⊥). let g : side ≡ 1 = omega (arith, f, below) in ap (is_set flags) g ∙ parts.1)
       (cases_eq side 0)
 
-  app_passes : app.AtPasses c a SeesAt
-  app_passes app.begins noted kept l = λ h e. record { sides = h.sides; left = h.left; known = from_both kept.gone }
-  app_passes p noted kept l = λ h e. h
+  app_silent : app.AtSilent c a SeesAt
+  app_silent app.begins noted kept l = λ h e. record { sides = h.sides; left = h.left; known = from_both kept.gone }
+  app_silent p noted kept l = λ h e. h
 
   first_of : (w x y z : Bool) → (w && x && y && z) ≡ true → w ≡ true
   first_of true x y z e = refl
@@ -278,7 +278,7 @@ module _ (c : Config) (a : ℕ) (one : IsApp c a) (side : ℕ) (below : side < 2
   app_law = record {
     calls = app_calls;
     entries = app_entries;
-    passes = app_passes;
+    silent = app_silent;
     ends = λ noted kept l done h. h.left ∙ ap (unless d) (h.known (first_of noted.gone _ _ _ done.1));
   }
 

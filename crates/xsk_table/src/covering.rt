@@ -22,22 +22,22 @@ use xsk_model::{Ask, Ring};
 use xsk_umem::Frame;
 
 /// The look of a Reserve that is covered.
-pub struct Granting<J> {
+pub struct GrantStep<J> {
     marker: PhantomData<J>,
 }
 
-impl<J: Asking> Play<Option<Frame>, View> for Granting<J> {
+impl<J: Asking> Play<Option<Frame>, View> for GrantStep<J> {
     ghost use Rattle.xsk_table.specs.Plays.{grants};
 
     ghost then = { grants J.ask };
 }
 
 /// The look of a Peek that is covered.
-pub struct Giving<J> {
+pub struct GiveStep<J> {
     marker: PhantomData<J>,
 }
 
-impl<J: Asking> Play<Option<Frame>, View> for Giving<J> {
+impl<J: Asking> Play<Option<Frame>, View> for GiveStep<J> {
     ghost use Rattle.xsk_table.specs.Plays.{gives};
 
     ghost then = { gives J.ask };
@@ -60,7 +60,7 @@ fn look_at_producer<J: Asking>(
     ensures told { Ended (ask_for board.now.setup who ring n) (Reserve ring n) Granted seat.old.me seat.new.me }
 {
     // No barrier: the count is the caller's own, and the (A) that found this room has paired with its (D).
-    board.look::<Granting<J>>(seat, word);
+    board.look::<GrantStep<J>>(seat, word);
 }
 
 /// The look at the producer word, its caller's own, at which a Reserve that is covered is granted.
@@ -94,7 +94,7 @@ fn look_at_consumer<J: Asking>(
     ensures told { PeekedAll (ask_for board.now.setup who ring n) seat.old.me seat.new.me }
 {
     // No barrier: the count is the caller's own, and the (C) that found these items has paired with its (B).
-    board.look::<Giving<J>>(seat, word);
+    board.look::<GiveStep<J>>(seat, word);
 }
 
 /// The look at the consumer word, its caller's own, at which a Peek that is covered gets all that it asks for.

@@ -19,22 +19,22 @@ use xsk_model::Mark;
 use xsk_umem::Frame;
 
 /// The swap of a mark's word.
-pub struct Swapping<J> {
+pub struct SwapStep<J> {
     marker: PhantomData<J>,
 }
 
-impl<J: Asking> Play<Option<Frame>, View> for Swapping<J> {
+impl<J: Asking> Play<Option<Frame>, View> for SwapStep<J> {
     ghost use Rattle.xsk_table.specs.Plays.{swaps};
 
     ghost then = { swaps J.ask };
 }
 
 /// The look at a mark's word.
-pub struct Viewing<J> {
+pub struct LookStep<J> {
     marker: PhantomData<J>,
 }
 
-impl<J: Asking> Play<Option<Frame>, View> for Viewing<J> {
+impl<J: Asking> Play<Option<Frame>, View> for LookStep<J> {
     ghost use Rattle.xsk_table.specs.Plays.{looks};
 
     ghost then = { looks J.ask };
@@ -56,7 +56,7 @@ fn swap_word<J: Asking>(
     ensures told { Answered (ask_mark board.now.setup who mark value) (Swap mark value) seat.old.me result seat.new.me }
 {
     // A full barrier: a Look that finds the number comes behind all that its caller did before the Swap.
-    board.swap::<Swapping<J>>(seat, word, value)
+    board.swap::<SwapStep<J>>(seat, word, value)
 }
 
 fn swap_mark(board: &Board, seat: &mut Chair, who: u32, mark: Mark, value: u64, word: usize) -> u64
@@ -80,7 +80,7 @@ fn look_word<J: Asking>(board: &Board, seat: &mut Chair, who: u32, mark: Mark, w
     ensures told { Answered (ask_mark board.now.setup who mark 0) (Look mark) seat.old.me result seat.new.me }
 {
     // Pairs with the Swap whose number it finds.
-    board.look::<Viewing<J>>(seat, word)
+    board.look::<LookStep<J>>(seat, word)
 }
 
 fn look_at_mark(board: &Board, seat: &mut Chair, who: u32, mark: Mark, word: usize) -> u64

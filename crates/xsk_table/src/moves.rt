@@ -17,7 +17,7 @@ ghost use Rattle.xsk_table.specs.Plays.{Placed, Lifted, PutIn, Fetched, Settled,
 
 use crate::board::{Board, Chair};
 use crate::layout::{ENTRIES, PRODUCER, entry_words};
-use crate::view::{Asking, Fetching, Lifting, Placing, Reading, Settling};
+use crate::view::{Asking, FetchStep, LiftStep, PlaceStep, ReadStep, SettleStep};
 use crate::words::{pack, unpack};
 use std::marker::Brand;
 use xsk_model::Ring;
@@ -53,7 +53,7 @@ fn lift<J: Asking>(board: &Board, seat: &mut Chair, who: u32, ring: Ring, item: 
     ensures told { Lifted (ask_item board.now.setup who ring item.now) seat.old.me seat.new.me }
 {
     // Between (A) and (B), at the producer's own count: no barrier, the slot alone moves.
-    board.look::<Lifting<J>>(seat, word);
+    board.look::<LiftStep<J>>(seat, word);
 }
 
 /// The write of an entry's second word, which takes the empty slot of the item's frame.
@@ -76,7 +76,7 @@ fn write_second<J: Asking>(
 {
     let (_, second) = pack(item.desc);
     // Data, between (A) and (B).
-    board.store::<Lifting<J>>(seat, word, second);
+    board.store::<LiftStep<J>>(seat, word, second);
 }
 
 /// Takes the empty slot of an item's frame, and writes what stands behind the address in the item's entry, which begins
@@ -130,9 +130,9 @@ fn write_entry<J: Asking>(
             let number = frame.number() as usize;
             drop(board.exchange(seat, number, Some(frame)));
             // Data, between (A) and (B): the address last, behind the frame.
-            board.store::<Placing<J>>(seat, word, desc.addr);
+            board.store::<PlaceStep<J>>(seat, word, desc.addr);
         }
-        None => board.store::<Placing<J>>(seat, word, desc.addr),
+        None => board.store::<PlaceStep<J>>(seat, word, desc.addr),
     }
 }
 
@@ -176,7 +176,7 @@ fn read_entry<J: Asking>(board: &Board, seat: &mut Chair, who: u32, ring: Ring, 
     ensures told { (x : Thing) (left : List Thing) → seat.old.me.0.flight ≡ taking ring (x ∷ left) → Fetched (ask_for board.now.setup who ring 0) x left seat.old.me result seat.new.me }
 {
     // Data, between (C) and (D).
-    board.look::<Fetching<J>>(seat, word)
+    board.look::<FetchStep<J>>(seat, word)
 }
 
 /// A look that gives the slot of the fetched frame home, empty, where nothing stands behind an entry's address.
@@ -191,7 +191,7 @@ fn settle<J: Asking>(board: &Board, seat: &mut Chair, who: u32, ring: Ring, word
     ensures told { (x : Thing) (left : List Thing) → seat.old.me.0.flight ≡ fetching ring x left → Settled (ask_for board.now.setup who ring 0) x left seat.old.me seat.new.me }
 {
     // Between (C) and (D), at the address once more: no barrier, the slot alone moves.
-    board.look::<Settling<J>>(seat, word);
+    board.look::<SettleStep<J>>(seat, word);
 }
 
 /// The read of an entry's second word, which gives the slot of the fetched frame home, empty.
@@ -207,7 +207,7 @@ fn read_second<J: Asking>(board: &Board, seat: &mut Chair, who: u32, ring: Ring,
     ensures told { (x : Thing) (left : List Thing) → seat.old.me.0.flight ≡ fetching ring x left → Settled (ask_for board.now.setup who ring 0) x left seat.old.me seat.new.me × (result ≡ second_word x.desc) }
 {
     // Data, between (C) and (D).
-    board.look::<Reading<J>>(seat, word)
+    board.look::<ReadStep<J>>(seat, word)
 }
 
 /// The descriptor of the item that is being fetched, by its address and what stands behind that in its entry, which

@@ -33,9 +33,9 @@ impl Model for Note {
 }
 
 /// How a seat of no caller is split off.
-pub struct Noting;
+pub struct NoteSplit;
 
-impl Split<View> for Noting {
+impl Split<View> for NoteSplit {
     ghost use Rattle.xsk_table.specs.View.{note_of};
 
     ghost left = { λ v. v };
@@ -44,9 +44,9 @@ impl Split<View> for Noting {
 }
 
 /// How a seat is put into another.
-pub struct Telling;
+pub struct NoteJoin;
 
-impl Join<View> for Telling {
+impl Join<View> for NoteJoin {
     ghost use Rattle.xsk_table.specs.View.{told_of, spent};
 
     ghost both = { told_of };
@@ -55,11 +55,11 @@ impl Join<View> for Telling {
 }
 
 /// The look after it, which sees all that was done so far.
-pub struct Meeting<J> {
+pub struct MeetStep<J> {
     marker: PhantomData<J>,
 }
 
-impl<J: Asking> Play<Option<Frame>, View> for Meeting<J> {
+impl<J: Asking> Play<Option<Frame>, View> for MeetStep<J> {
     ghost use Rattle.xsk_table.specs.Meeting.{meets};
 
     ghost then = { meets J.ask };
@@ -72,7 +72,7 @@ fn look<J: Asking>(board: &Board, seat: &mut Chair)
     ensures same { (seat.new.table_id ≡ seat.old.table_id) × (seat.new.id ≡ seat.old.id) }
     ensures told { Met board.now.setup seat.old.me seat.new.me }
 {
-    board.look_round::<Meeting<J>>(seat);
+    board.look_round::<MeetStep<J>>(seat);
 }
 
 /// Puts a seat into another, which then has seen all that was done so far.
@@ -83,7 +83,7 @@ pub(crate) fn take_in(board: &Board, seat: &mut Chair, other: Chair)
     ensures same { (seat.new.table_id ≡ seat.old.table_id) × (seat.new.id ≡ seat.old.id) }
     ensures told { Met board.now.setup (told_of seat.old.me.0 other.me.0, seat.old.me.1) seat.new.me }
 {
-    board.join_seat::<Telling>(seat, other);
+    board.join_seat::<NoteJoin>(seat, other);
     look::<Brand>(board, seat);
 }
 
@@ -94,7 +94,7 @@ pub(crate) fn take_note(board: &Board, seat: &mut Chair) -> Note
     ensures note { result ≡ record { table = seat.old.table_id; seen = seat.old.me.0.seen } }
 {
     Note {
-        seat: board.split_seat::<Noting>(seat),
+        seat: board.split_seat::<NoteSplit>(seat),
     }
 }
 

@@ -15,7 +15,7 @@ use crate::end::End;
 use crate::opening::{lay_ends, lay_words};
 use crate::pass::Pass;
 use crate::passes::Passes;
-use crate::view::{Dealing, Key};
+use crate::view::{CallerSplit, Key};
 use std::alloc::Global;
 use std::marker::Model;
 use std::mem;
@@ -139,7 +139,7 @@ fn deal(
     let mut ends = ends;
     let mut passes = passes;
     for who in 0..callers {
-        let own = board.split_seat::<Dealing>(&mut seat);
+        let own = board.split_seat::<CallerSplit>(&mut seat);
         let list = mem::replace(&mut ends[who as usize], Vec::new(alloc));
         passes.push_reserved(Some(Pass {
             seat: own,

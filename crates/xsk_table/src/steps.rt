@@ -16,7 +16,7 @@ ghost use Rattle.xsk_table.specs.Plays.{IsReady, Reserved, Extends, Ended, Peeke
 
 use crate::board::{Board, Chair};
 use crate::counting::Steps;
-use crate::view::{Asking, Peeking, Raising, Releasing, Reserving};
+use crate::view::{Asking, PeekStep, RaiseStep, ReleaseStep, ReserveStep};
 use crate::words::used;
 use std::marker::Brand;
 use std::sync::ledger::Ledger;
@@ -40,7 +40,7 @@ fn look_room<J: Asking, L: Ledger>(
     ensures counted { steps.new ≡ steps.old + 1 }
 {
     // (A), pairs with (D): what the consumer read is read before its place is written again. In the kernel a control dependency.
-    board.look_counted::<Reserving<J>, L>(seat, word, steps)
+    board.look_counted::<ReserveStep<J>, L>(seat, word, steps)
 }
 
 /// The look of a Reserve, which tells how many places are free. `filled` counts what was submitted and reserved.
@@ -90,7 +90,7 @@ fn write_consumer<J: Asking>(
     ensures told { Ended (ask_for board.now.setup who ring n) (Release ring n) Released seat.old.me seat.new.me }
 {
     // (D), pairs with (A): it stands behind the loads of the entries. In the kernel a store-release.
-    board.store::<Releasing<J>>(seat, word, new as u64)
+    board.store::<ReleaseStep<J>>(seat, word, new as u64)
 }
 
 /// The raise of the consumer. `near` is the consumer word.
@@ -133,7 +133,7 @@ fn write_producer<J: Asking>(
     ensures told { Ended (ask_for board.now.setup who ring 0) (Submit ring (lying seat.old.me.0.flight)) Submitted seat.old.me seat.new.me }
 {
     // (B), pairs with (C): it stands behind the stores of the entries. In the kernel a store-release.
-    board.store::<Raising<J>>(seat, word, new as u64)
+    board.store::<RaiseStep<J>>(seat, word, new as u64)
 }
 
 /// The raise of the producer. `near` is the producer word, and `placed` the number of items that are placed.
@@ -178,7 +178,7 @@ fn look_items<J: Asking, L: Ledger>(
     ensures counted { steps.new ≡ steps.old + 1 }
 {
     // (C), pairs with (B): the entries that it finds are whole. In the kernel a load-acquire.
-    board.look_counted::<Peeking<J>, L>(seat, word, steps)
+    board.look_counted::<PeekStep<J>, L>(seat, word, steps)
 }
 
 /// The look of a Peek, which tells how many items are out. `far` counts what was released and is held.

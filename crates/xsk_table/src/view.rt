@@ -63,108 +63,108 @@ impl Asking for Brand {
 }
 
 /// The look of a Reserve.
-pub struct Reserving<J> {
+pub struct ReserveStep<J> {
     marker: PhantomData<J>,
 }
 
-impl<J: Asking> Play<Option<Frame>, View> for Reserving<J> {
+impl<J: Asking> Play<Option<Frame>, View> for ReserveStep<J> {
     ghost use Rattle.xsk_table.specs.Plays.{reserves};
 
     ghost then = { reserves J.ask };
 }
 
 /// The look, or the write of an entry's second word, that takes the slot of a frame.
-pub struct Lifting<J> {
+pub struct LiftStep<J> {
     marker: PhantomData<J>,
 }
 
-impl<J: Asking> Play<Option<Frame>, View> for Lifting<J> {
+impl<J: Asking> Play<Option<Frame>, View> for LiftStep<J> {
     ghost use Rattle.xsk_table.specs.Plays.{lifts};
 
     ghost then = { lifts J.ask };
 }
 
 /// The write of an entry, which gives the slot home with the frame.
-pub struct Placing<J> {
+pub struct PlaceStep<J> {
     marker: PhantomData<J>,
 }
 
-impl<J: Asking> Play<Option<Frame>, View> for Placing<J> {
+impl<J: Asking> Play<Option<Frame>, View> for PlaceStep<J> {
     ghost use Rattle.xsk_table.specs.Plays.{places};
 
     ghost then = { places J.ask };
 }
 
 /// The raise of the producer.
-pub struct Raising<J> {
+pub struct RaiseStep<J> {
     marker: PhantomData<J>,
 }
 
-impl<J: Asking> Play<Option<Frame>, View> for Raising<J> {
+impl<J: Asking> Play<Option<Frame>, View> for RaiseStep<J> {
     ghost use Rattle.xsk_table.specs.Plays.{submits};
 
     ghost then = { submits J.ask };
 }
 
 /// The look of a Peek.
-pub struct Peeking<J> {
+pub struct PeekStep<J> {
     marker: PhantomData<J>,
 }
 
-impl<J: Asking> Play<Option<Frame>, View> for Peeking<J> {
+impl<J: Asking> Play<Option<Frame>, View> for PeekStep<J> {
     ghost use Rattle.xsk_table.specs.Plays.{peeks};
 
     ghost then = { peeks J.ask };
 }
 
 /// The read of an entry, which takes the slot with the frame.
-pub struct Fetching<J> {
+pub struct FetchStep<J> {
     marker: PhantomData<J>,
 }
 
-impl<J: Asking> Play<Option<Frame>, View> for Fetching<J> {
+impl<J: Asking> Play<Option<Frame>, View> for FetchStep<J> {
     ghost use Rattle.xsk_table.specs.Plays.{fetches};
 
     ghost then = { fetches J.ask };
 }
 
 /// The look that gives the slot home, empty.
-pub struct Settling<J> {
+pub struct SettleStep<J> {
     marker: PhantomData<J>,
 }
 
-impl<J: Asking> Play<Option<Frame>, View> for Settling<J> {
+impl<J: Asking> Play<Option<Frame>, View> for SettleStep<J> {
     ghost use Rattle.xsk_table.specs.Plays.{settles};
 
     ghost then = { settles J.ask };
 }
 
 /// The read of an entry's second word, which gives the slot home, empty.
-pub struct Reading<J> {
+pub struct ReadStep<J> {
     marker: PhantomData<J>,
 }
 
-impl<J: Asking> Play<Option<Frame>, View> for Reading<J> {
+impl<J: Asking> Play<Option<Frame>, View> for ReadStep<J> {
     ghost use Rattle.xsk_table.specs.Plays.{reads};
 
     ghost then = { reads J.ask };
 }
 
 /// The raise of the consumer.
-pub struct Releasing<J> {
+pub struct ReleaseStep<J> {
     marker: PhantomData<J>,
 }
 
-impl<J: Asking> Play<Option<Frame>, View> for Releasing<J> {
+impl<J: Asking> Play<Option<Frame>, View> for ReleaseStep<J> {
     ghost use Rattle.xsk_table.specs.Plays.{releases};
 
     ghost then = { releases J.ask };
 }
 
 /// How the opening deals the callers out.
-pub struct Dealing;
+pub struct CallerSplit;
 
-impl Split<View> for Dealing {
+impl Split<View> for CallerSplit {
     ghost use Rattle.xsk_table.specs.View.{first_caller, other_callers};
 
     ghost left = { other_callers };

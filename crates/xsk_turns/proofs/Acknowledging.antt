@@ -21,7 +21,7 @@ use Rattle.xsk_turns.specs.declared.wire.Wire.{Wire}
 use Rattle.xsk_turns.proofs.Layouts.{length-laid_out}
 use Rattle.xsk_turns.proofs.Places.{classes_some, class_here}
 use Rattle.xsk_turns.proofs.Walks.{MeetAlong, Suiting, submit_due, meet_suiting}
-use Rattle.xsk_turns.proofs.DriverPlaces.{Place, Acking, Trying, Which, Turning, Again, Family, TellAcked, ReserveRx, SubmitRx, call_at, saw_closed, told_acked, saw_fed, looked_some, rx_granted, rx_submitted, comp_granted, comp_submitted, fill_empty, rx_full, point_of, reply_of, too_few, seeks, Said, AtCalls, AtEntries, AtPasses, IsLaw}
+use Rattle.xsk_turns.proofs.DriverStages.{Stage, Acking, Trying, Which, Turning, Again, Family, TellAcked, ReserveRx, SubmitRx, call_at, saw_closed, told_acked, saw_fed, looked_some, rx_granted, rx_submitted, comp_granted, comp_submitted, fill_empty, rx_full, point_of, reply_of, too_few, seeks, Said, AtCalls, AtEntries, AtSilent, IsLaw}
 use Rattle.xsk_turns.proofs.DriverWalk.{at_call}
 
 -- ---- a packet that goes to a socket
@@ -90,7 +90,7 @@ pub record Knows (s : ℕ) (acked : Bool) (l : List Told) : Type 0 where
   pub fed : acked ≡ false → last_set (Acked s) l ≡ None
 
 -- the places that are reserved on the RX ring of a socket
-abbrev room_at : ℕ → Place → ℕ
+abbrev room_at : ℕ → Stage → ℕ
 room_at s (Trying look packet t (submit_due r n)) = cond (is_ring (Rx s) r) n 0
 room_at s place = 0
 
@@ -118,7 +118,7 @@ module _ (wire : Wire) (c : Config) (pair : ℕ) (is : IsSeat c pair) where
   Feeds Turning t acked = closing_of seat ≡ Some t → acked ≡ false
   Feeds Again t acked = Unit {0}
 
-  abbrev Beside : Place → Noted → Kept → List Told → Type 0
+  abbrev Beside : Stage → Noted → Kept → List Told → Type 0
   Beside Acking noted kept l = (s : ℕ) → closing_of seat ≡ Some s → last_seen (Closing s) l ≡ Some 1
   Beside (Trying look packet t due) noted kept l = Feeds look t kept.acked
   Beside place noted kept l = Unit {0}
@@ -236,13 +236,13 @@ module _ (wire : Wire) (c : Config) (pair : ℕ) (is : IsSeat c pair) where
     same_room l (call_at seat (point_of e) kept) (reply_of e) refl refl h.2,
   )
 
-  passes : AtPasses seat (Suiting c) At
-  passes (too_few packet s) noted kept l = λ h e. (h.0, tt, h.2)
-  passes (seeks packet s) noted kept l = λ h e. (h.0, tt, h.2)
-  passes p noted kept l = λ h e. h
+  silent : AtSilent seat (Suiting c) At
+  silent (too_few packet s) noted kept l = λ h e. (h.0, tt, h.2)
+  silent (seeks packet s) noted kept l = λ h e. (h.0, tt, h.2)
+  silent p noted kept l = λ h e. h
 
   law : IsLaw seat (Suiting c) At Asked Ended
-  law = record { calls = calls; entries = entries; passes = passes; ends = λ noted kept l n known h a q. tt }
+  law = record { calls = calls; entries = entries; silent = silent; ends = λ noted kept l n known h a q. tt }
 
 module _ (wire : Wire) (c : Config) (pair : ℕ) (input : List Judged) (l : List Told) (is : IsSeat c pair) (fit : AllFit c [] l) where
   abbrev begins : Kept

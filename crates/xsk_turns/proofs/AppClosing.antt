@@ -15,7 +15,7 @@ use Rattle.xsk_turns.specs.AppOwned.{IsApp}
 use Rattle.xsk_turns.specs.declared.manner.Manner.{Manner}
 use Rattle.xsk_turns.proofs.AppShut.{IsShut, shut_mine}
 use Rattle.xsk_turns.proofs.Walks.{Anything, meet_anything}
-use Rattle.xsk_turns.proofs.AppWalk.{Place, Lanes, Lane, Sides, Side, Ending, Looking, Waking, Looked, Kicking, TxTold, Lowering, Shutting, Draining, Family, ReserveTx, SubmitTx, TellClosing, shut_port, shut_cells, call_at, lowered, told_closing, looked_rx_done, looked_gone, kicked, looked_need, point_of, reply_of, without_need, needs_none, needs_kick, closes, keeps_cell, AtCalls, AtEntries, AtPasses, Said, IsLaw, at_call, at_end}
+use Rattle.xsk_turns.proofs.AppWalk.{Stage, Lanes, Lane, Sides, Side, Ending, Looking, Waking, Looked, Kicking, TxTold, Lowering, Shutting, Draining, Family, ReserveTx, SubmitTx, TellClosing, shut_port, shut_cells, call_at, lowered, told_closing, looked_rx_done, looked_gone, kicked, looked_need, point_of, reply_of, without_need, needs_none, needs_kick, closes, keeps_cell, AtCalls, AtEntries, AtSilent, Said, IsLaw, at_call, at_end}
 
 -- ---- what a call waits for
 
@@ -64,18 +64,18 @@ module _ (c : Config) (a : ℕ) (one : IsApp c a) where
   abbrev AreLow : Shut → ℕ → List Told → Type 0
   AreLow shut index l = (i : ℕ) → i < index → HoldsClosing c (shut_port c shut) i shut.socket → last_set (Cell (shut_port c shut) i) l ≡ Some 0
 
-  abbrev IsFree : Place → Type 0
+  abbrev IsFree : Stage → Type 0
   IsFree (Lowering shut index) = ⊥
   IsFree (Waking place need pair) = IsFree place
   IsFree (Looked place need pair n) = IsFree place
   IsFree (Kicking place pair) = IsFree place
   IsFree place = Unit {0}
 
-  abbrev Beside : Place → List Told → Type 0
+  abbrev Beside : Stage → List Told → Type 0
   Beside (Lowering shut index) l = AreLow shut index l
   Beside place l = IsFree place
 
-  beside_free : (place : Place) (l : List Told) → IsFree place → Beside place l
+  beside_free : (place : Stage) (l : List Told) → IsFree place → Beside place l
   beside_free (Lanes lane) l h = tt
   beside_free (Lane lane due) l h = tt
   beside_free (Sides side) l h = tt
@@ -191,16 +191,16 @@ module _ (c : Config) (a : ℕ) (one : IsApp c a) where
   entries (looked_gone side n) noted kept l known h asked q = (subst (λ b. HasSet c a b (with_told l (Look (Gone (pair_of c a side))) (Old n))) (sym (gone_begun kept side n)) (keeps kept.begun l (Look (Gone (pair_of c a side))) (Old n) (λ s o. refl) h.0), tt)
   entries e noted kept l known h asked q = (keeps kept.begun l (call_at c a (point_of e) kept) (reply_of e) (λ s o. refl) h.0, tt)
 
-  passes : AtPasses c a At
-  passes (without_need place need pair) noted kept l = λ h off. (h.0, beside_free place l h.1)
-  passes (needs_none place need pair n) noted kept l = λ h off. (h.0, beside_free place l h.1)
-  passes (needs_kick place need pair n) noted kept l = λ h off. h
-  passes (closes shut) noted kept l = λ h e. (h.0, λ i below holds. absurd (omega arith))
-  passes (keeps_cell shut index) noted kept l = λ h e. (h.0, λ i below holds. low_past shut index i l h.1 e.1 below holds)
-  passes p noted kept l = λ h e. h
+  silent : AtSilent c a At
+  silent (without_need place need pair) noted kept l = λ h off. (h.0, beside_free place l h.1)
+  silent (needs_none place need pair n) noted kept l = λ h off. (h.0, beside_free place l h.1)
+  silent (needs_kick place need pair n) noted kept l = λ h off. h
+  silent (closes shut) noted kept l = λ h e. (h.0, λ i below holds. absurd (omega arith))
+  silent (keeps_cell shut index) noted kept l = λ h e. (h.0, λ i below holds. low_past shut index i l h.1 e.1 below holds)
+  silent p noted kept l = λ h e. h
 
   law : IsLaw c a Anything At Asked Ended
-  law = record { calls = calls; entries = entries; passes = passes; ends = λ noted kept l done h. h.0 }
+  law = record { calls = calls; entries = entries; silent = silent; ends = λ noted kept l done h. h.0 }
 
 module _ (m : Manner) (c : Config) (a : ℕ) (one : IsApp c a) (l : List Told) where
   begins : At c a one (Lanes 0) (noted_first (app_start_by m c)) (app_start_by m c) []

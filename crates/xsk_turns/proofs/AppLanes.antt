@@ -26,7 +26,7 @@ use Rattle.xsk_turns.proofs.Draining.{draining_told, same_unseen, when_found, fo
 use Rattle.xsk_turns.proofs.Owned.{peeked_none, none_submitted, other_submitted}
 use Rattle.xsk_turns.proofs.ReceivingLaws.{telling_told, and_off, now_told}
 use Rattle.xsk_turns.proofs.Walks.{Anything, meet_anything}
-use Rattle.xsk_turns.proofs.AppWalk.{Place, Lanes, Lane, Sides, Side, Ending, Looking, Waking, Looked, Kicking, TxTold, Draining as Drained, Lowering, Shutting, Family, lowered, told_closing, drain_empty, drain_items, drain_released, looked_acked, is_need, busy_lane, busy_side, ReleaseRx, ReserveTx, SubmitTx, LookNeed, KickDriver, group, asked, call_at, kept_before, rx_empty, rx_items, rx_released, tx_granted, tx_full, tx_submitted, comp_items, fill_submitted, looked_rx_done, told_tx_done, looked_gone, looked_need, kicked, point_of, reply_of, no_lanes, has_items, has_frames, looks, rests, begins, Said, AtCalls, AtEntries, AtPasses, IsLaw, at_call, at_end, of_run}
+use Rattle.xsk_turns.proofs.AppWalk.{Stage, Lanes, Lane, Sides, Side, Ending, Looking, Waking, Looked, Kicking, TxTold, Draining as Drained, Lowering, Shutting, Family, lowered, told_closing, drain_empty, drain_items, drain_released, looked_acked, is_need, busy_lane, busy_side, ReleaseRx, ReserveTx, SubmitTx, LookNeed, KickDriver, group, asked, call_at, kept_before, rx_empty, rx_items, rx_released, tx_granted, tx_full, tx_submitted, comp_items, fill_submitted, looked_rx_done, told_tx_done, looked_gone, looked_need, kicked, point_of, reply_of, no_lanes, has_items, has_frames, looks, rests, begins, Said, AtCalls, AtEntries, AtSilent, IsLaw, at_call, at_end, of_run}
 
 -- ---- what an entry leaves of a ring's items
 
@@ -495,7 +495,7 @@ module _ (manner : Manner) (c : Config) (a : ℕ) (one : IsApp c a) where
   Ended kept l = AtEnd manner c a kept l
 
   -- so at each place of a turn, and it stays so as drivers are woken
-  asked_at : (place : Place) (noted : AppNoted) (kept : AppKept) (call : Call) (l : List Told) → At place noted kept l → Asked kept call l
+  asked_at : (place : Stage) (noted : AppNoted) (kept : AppKept) (call : Call) (l : List Told) → At place noted kept l → Asked kept call l
   asked_at (Lanes lane) noted kept call l h = at_call_of manner c a noted lane kept call l h
   asked_at (Lane lane due) noted kept call l h = at_call_of manner c a noted (lane + 1) kept call l h.0
   asked_at (Sides side) noted kept call l h = at_call_of manner c a noted (lanes_of c) kept call l h
@@ -513,7 +513,7 @@ module _ (manner : Manner) (c : Config) (a : ℕ) (one : IsApp c a) where
   abbrev Stays : List Told → List Told → Type 0
   Stays l m = (noted : AppNoted) (upto : ℕ) (kept : AppKept) → InOrder manner c a noted upto kept l → InOrder manner c a noted upto kept m
 
-  stays : (place : Place) (noted : AppNoted) (kept : AppKept) (l m : List Told) → Stays l m → At place noted kept l → At place noted kept m
+  stays : (place : Stage) (noted : AppNoted) (kept : AppKept) (l m : List Told) → Stays l m → At place noted kept l → At place noted kept m
   stays (Lanes lane) noted kept l m on h = on noted lane kept h
   stays (Lane lane due) noted kept l m on h = (on noted (lane + 1) kept h.0, h.1)
   stays (Sides side) noted kept l m on h = on noted (lanes_of c) kept h
@@ -573,17 +573,17 @@ module _ (manner : Manner) (c : Config) (a : ℕ) (one : IsApp c a) where
   entries e noted kept l known h asked q =
       still manner c a noted (lanes_of c) (kept_before (point_of e) kept) l h (call_at c a (point_of e) kept) (reply_of e) refl refl (λ t s. refl) (λ s u. refl)
 
-  passes : AtPasses c a At
-  passes no_lanes noted kept l = λ h done. renoted manner c a noted 0 kept l h noted (lanes_of c) h.known (λ e sends. absurd (let no : true ≡ false = sym done ∙ sends in cc))
-  passes (has_items lane item items) noted kept l = λ h e. (renoted manner c a noted lane kept l h (busy_lane noted) (lane + 1) h.known (λ e. absurd (cc)), refl)
-  passes (has_frames side frame frames) noted kept l = λ h e. renoted manner c a noted (lanes_of c) kept l h (busy_side noted) (lanes_of c) h.known h.found
-  passes looks noted kept l = λ h e. over_turn manner c a noted (lanes_of c) kept l h
-  passes rests noted kept l = λ h e. over_turn manner c a noted (lanes_of c) kept l h
-  passes begins noted kept l = λ h e. renoted manner c a none_noted 0 kept l h (noted_first kept) 0 (λ e. e) (λ e sends j k. absurd (omega arith))
-  passes p noted kept l = λ h e. h
+  silent : AtSilent c a At
+  silent no_lanes noted kept l = λ h done. renoted manner c a noted 0 kept l h noted (lanes_of c) h.known (λ e sends. absurd (let no : true ≡ false = sym done ∙ sends in cc))
+  silent (has_items lane item items) noted kept l = λ h e. (renoted manner c a noted lane kept l h (busy_lane noted) (lane + 1) h.known (λ e. absurd (cc)), refl)
+  silent (has_frames side frame frames) noted kept l = λ h e. renoted manner c a noted (lanes_of c) kept l h (busy_side noted) (lanes_of c) h.known h.found
+  silent looks noted kept l = λ h e. over_turn manner c a noted (lanes_of c) kept l h
+  silent rests noted kept l = λ h e. over_turn manner c a noted (lanes_of c) kept l h
+  silent begins noted kept l = λ h e. renoted manner c a none_noted 0 kept l h (noted_first kept) 0 (λ e. e) (λ e sends j k. absurd (omega arith))
+  silent p noted kept l = λ h e. h
 
   pub law : IsLaw c a Anything At Asked Ended
-  law = record { calls = calls; entries = entries; passes = passes; ends = λ noted kept l done h. at_last manner c a noted (lanes_of c) kept l done.0 h }
+  law = record { calls = calls; entries = entries; silent = silent; ends = λ noted kept l done h. at_last manner c a noted (lanes_of c) kept l done.0 h }
 
 -- ---- the laws
 

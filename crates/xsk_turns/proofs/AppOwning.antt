@@ -29,7 +29,7 @@ use Rattle.xsk_turns.proofs.Legality.{times-front}
 use Rattle.xsk_turns.proofs.Owned.{frame_numbers-in}
 use Rattle.xsk_turns.proofs.Rooms.{IsOwnFrame, below-frames}
 use Rattle.xsk_turns.proofs.Walks.{Premise, Due, nothing_due, submit_due, release_due, MeetAlong, Fitting, meet_fitting}
-use Rattle.xsk_turns.proofs.AppWalk.{Place, Lanes, Lane, Sides, Side, Ending, Looking, Waking, Looked, Kicking, TxTold, Lowering, Shutting, Draining, Family, LowerCell, TellClosing, PeekDrain, ReleaseDrain, LookAcked, shut_port, told_closing, looked_acked, drain_items, closed_kicks, PeekRx, ReleaseRx, ReserveTx, SubmitTx, PeekComp, ReleaseComp, ReserveFill, SubmitFill, LookRxDone, TellTxDone, LookGone, LookNeed, KickDriver, group, call_at, kept_before, rx_items, rx_released, tx_granted, tx_submitted, comp_items, fill_granted, fill_submitted, looked_rx_done, told_tx_done, looked_gone, looked_need, kicked, point_of, reply_of, has_items, without_need, needs_none, needs_kick, told_both, AtCalls, AtEntries, AtPasses, IsLaw, at_call, at_end}
+use Rattle.xsk_turns.proofs.AppWalk.{Stage, Lanes, Lane, Sides, Side, Ending, Looking, Waking, Looked, Kicking, TxTold, Lowering, Shutting, Draining, Family, LowerCell, TellClosing, PeekDrain, ReleaseDrain, LookAcked, shut_port, told_closing, looked_acked, drain_items, closed_kicks, PeekRx, ReleaseRx, ReserveTx, SubmitTx, PeekComp, ReleaseComp, ReserveFill, SubmitFill, LookRxDone, TellTxDone, LookGone, LookNeed, KickDriver, group, call_at, kept_before, rx_items, rx_released, tx_granted, tx_submitted, comp_items, fill_granted, fill_submitted, looked_rx_done, told_tx_done, looked_gone, looked_need, kicked, point_of, reply_of, has_items, without_need, needs_none, needs_kick, told_both, AtCalls, AtEntries, AtSilent, IsLaw, at_call, at_end}
 
 times-here : (n : ℕ) (xs : List ℕ) → 1 ≤ times n (n ∷ xs)
 times-here n xs = grind (arith, nat_tests)
@@ -57,7 +57,7 @@ module _ (c : Config) (a : ℕ) (one : IsApp c a) where
   MayWake pair l = (pair < length c.pairs) × (HasOwnFrames c a l → who ≡ app_of c (Fill pair))
 
   -- what is due, that a lane has items to pass on, and that the flag is one that there is
-  abbrev pub Beside : Place → AppKept → List Told → Type 0
+  abbrev pub Beside : Stage → AppKept → List Told → Type 0
   Beside (Lane lane due) kept l = (1 ≤ length (pending_at kept lane)) × IsDue due l
   Beside (Side side due) kept l = IsDue due l
   Beside (Draining lane due) kept l = IsDue due l
@@ -80,7 +80,7 @@ module _ (c : Config) (a : ℕ) (one : IsApp c a) where
   due_on (submit_due r n) l call reply off h = let e = part_of-push_other room_step r 0 l (record { call = call; reply = reply }) (off r) in omega (arith, h, e)
   due_on (release_due r n) l call reply off h = let e = part_of-push_other held_step r 0 l (record { call = call; reply = reply }) (off r) in (h.0, h.1, omega (arith, h.2, e))
 
-  beside_on : (place : Place) (kept : AppKept) (l : List Told) (call : Call) (reply : Reply) → ((r : Ring) → is_on r call ≡ false) → Beside place kept l → Beside place kept (with_told l call reply)
+  beside_on : (place : Stage) (kept : AppKept) (l : List Told) (call : Call) (reply : Reply) → ((r : Ring) → is_on r call ≡ false) → Beside place kept l → Beside place kept (with_told l call reply)
   beside_on (Lane lane due) kept l call reply off h = (h.0, due_on due l call reply off h.1)
   beside_on (Side side due) kept l call reply off h = due_on due l call reply off h
   beside_on (Waking place need pair) kept l call reply off h = (beside_on place kept l call reply off h.0, h.1, wakes_on pair l _ h.2)
@@ -337,22 +337,22 @@ module _ (c : Config) (a : ℕ) (one : IsApp c a) where
   entries (drain_items lane items) noted kept l known h asked fresh = drains_items lane items kept l known.0 h.0 fresh
   entries e noted kept l known h asked q = (told (kept_before (point_of e) kept) (call_at c a (point_of e) kept) (reply_of e) l refl refl h.0, tt)
 
-  passes : AtPasses c a At
-  passes (has_items lane item items) noted kept l = λ h e. (h.0, (omega (arith, ap length e), tt))
-  passes (without_need place need pair) noted kept l = λ h e. (h.0, h.1.0)
-  passes (needs_none place need pair n) noted kept l = λ h e. (h.0, h.1.0)
-  passes (needs_kick place need pair n) noted kept l = λ h e. h
-  passes told_both noted kept l = λ h e.
+  silent : AtSilent c a At
+  silent (has_items lane item items) noted kept l = λ h e. (h.0, (omega (arith, ap length e), tt))
+  silent (without_need place need pair) noted kept l = λ h e. (h.0, h.1.0)
+  silent (needs_none place need pair n) noted kept l = λ h e. (h.0, h.1.0)
+  silent (needs_kick place need pair n) noted kept l = λ h e. h
+  silent told_both noted kept l = λ h e.
       let first = seats.comp 0 (omega arith) in
       let second = seats.comp 1 (omega arith) in
       (h.0, ((tt, (second.0, λ own. second.1)), (first.0, λ own. first.1)))
-  passes (closed_kicks shut) noted kept l = λ h e.
+  silent (closed_kicks shut) noted kept l = λ h e.
       let pair = seats.comp shut.side (shut_mine c a shut e.1).side in
       (h.0, (tt, (pair.0, λ own. pair.1)))
-  passes p noted kept l = λ h e. (h.0, tt)
+  silent p noted kept l = λ h e. (h.0, tt)
 
   pub law : IsLaw c a Answers At Asked Has
-  law = record { calls = calls; entries = entries; passes = passes; ends = λ noted kept l done h. h.0 }
+  law = record { calls = calls; entries = entries; silent = silent; ends = λ noted kept l done h. h.0 }
 
 -- ---- the laws
 

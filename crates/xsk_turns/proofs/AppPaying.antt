@@ -13,7 +13,7 @@ use Rattle.xsk_turns.specs.Wakes.{owes_after, owes_step, owes_on, owes_end_after
 use Rattle.xsk_turns.specs.AppTurns.{AppKept, pair_of, tx_of, tx_pair, home_of, app_turn, app_start_by}
 use Rattle.xsk_turns.proofs.AppPlaces.{class_below, socket_driver}
 use Rattle.xsk_turns.proofs.Walks.{Premise, Anything, Fitting, meet_anything, meet_fitting}
-use Rattle.xsk_turns.proofs.AppWalk.{Place, Lanes, Lane, Sides, Side, Ending, Looking, Waking, Looked, Kicking, TxTold, Lowering, Shutting, Draining, Family, LowerCell, lowered, told_closing, closed_quietly, closed_kicks, LookNeed, KickDriver, is_need, call_at, tx_submitted, fill_submitted, told_tx_done, looked_need, kicked, point_of, reply_of, without_need, needs_none, needs_kick, told_quietly, told_both, AtCalls, AtEntries, AtPasses, Said, IsLaw, at_call}
+use Rattle.xsk_turns.proofs.AppWalk.{Stage, Lanes, Lane, Sides, Side, Ending, Looking, Waking, Looked, Kicking, TxTold, Lowering, Shutting, Draining, Family, LowerCell, lowered, told_closing, closed_quietly, closed_kicks, LookNeed, KickDriver, is_need, call_at, tx_submitted, fill_submitted, told_tx_done, looked_need, kicked, point_of, reply_of, without_need, needs_none, needs_kick, told_quietly, told_both, AtCalls, AtEntries, AtSilent, Said, IsLaw, at_call}
 
 -- ---- numbers and marks
 
@@ -51,7 +51,7 @@ module _ (c : Config) (a : ℕ) (one : IsApp c a) (wakeup : c.wakeup ≡ true) (
   owes l = owes_on d r flag l
 
   -- where it owes one, it is on the way to it
-  abbrev OnTheWay : Place → List Told → Type 0
+  abbrev OnTheWay : Stage → List Told → Type 0
   OnTheWay (Waking place need pair) l = owes l ≡ true → (need ≡ flag) × (pair ≡ d)
   OnTheWay (Looked place need pair n) l = owes l ≡ true → (n ≡ 1) × (pair ≡ d)
   OnTheWay (Kicking place pair) l = owes l ≡ true → pair ≡ d
@@ -72,7 +72,7 @@ module _ (c : Config) (a : ℕ) (one : IsApp c a) (wakeup : c.wakeup ≡ true) (
   owes_told : (l : List Told) (call : Call) (reply : Reply) → owes (with_told l call reply) ≡ owes_after r flag (Kick d) (owes l) call reply
   owes_told l call reply = fold_push (owes_step r flag (Kick d)) false l (record { call = call; reply = reply })
 
-  free : (place : Place) (l : List Told) → owes l ≡ false → OnTheWay place l
+  free : (place : Stage) (l : List Told) → owes l ≡ false → OnTheWay place l
   free (Waking place need pair) l e = λ o. absurd (let no : false ≡ true = sym e ∙ o in cc)
   free (Looked place need pair n) l e = λ o. absurd (let no : false ≡ true = sym e ∙ o in cc)
   free (Kicking place pair) l e = λ o. absurd (let no : false ≡ true = sym e ∙ o in cc)
@@ -136,18 +136,18 @@ module _ (c : Config) (a : ℕ) (one : IsApp c a) (wakeup : c.wakeup ≡ true) (
       absurd (let no : true ≡ false = sym (ap (λ b. b && true) here) ∙ not_true (eqb d pair && true) parts.1 in cc)))
   entries e noted kept l known h asked q = stays l (call_at c a (point_of e) kept) (reply_of e) h refl
 
-  passes : AtPasses c a At
-  passes (without_need place need pair) noted kept l = λ h off. absurd (let no : true ≡ false = sym wakeup ∙ off in cc)
-  passes (needs_none place need pair n) noted kept l = λ h e.
+  silent : AtSilent c a At
+  silent (without_need place need pair) noted kept l = λ h off. absurd (let no : true ≡ false = sym wakeup ∙ off in cc)
+  silent (needs_none place need pair n) noted kept l = λ h e.
       free place l (never_true (owes l) (λ o. absurd (let no : true ≡ false = sym (eq-eqb n 1 (h o).0) ∙ e in cc)))
-  passes (needs_kick place need pair n) noted kept l = λ h e o. (h o).1
-  passes told_quietly noted kept l = λ h off. h
-  passes told_both noted kept l = λ h e. free (Kicking (Kicking (Looking 2) (pair_of c a 1)) (pair_of c a 0)) l h
-  passes (closed_kicks shut) noted kept l = λ h e. free (Kicking (Lanes 0) (pair_of c a shut.side)) l h
-  passes p noted kept l = λ h e. h
+  silent (needs_kick place need pair n) noted kept l = λ h e o. (h o).1
+  silent told_quietly noted kept l = λ h off. h
+  silent told_both noted kept l = λ h e. free (Kicking (Kicking (Looking 2) (pair_of c a 1)) (pair_of c a 0)) l h
+  silent (closed_kicks shut) noted kept l = λ h e. free (Kicking (Lanes 0) (pair_of c a shut.side)) l h
+  silent p noted kept l = λ h e. h
 
   pub law : IsLaw c a Answers At Asked (λ kept l. Unit {0})
-  law = record { calls = calls; entries = entries; passes = passes; ends = λ noted kept l done h. tt }
+  law = record { calls = calls; entries = entries; silent = silent; ends = λ noted kept l done h. tt }
 
 pub pays_at_once : PaysAtOnce
 pays_at_once m c a l kept call rest d r flag one wakeup fit asks is owes =
@@ -179,7 +179,7 @@ module _ (c : Config) (a : ℕ) (one : IsApp c a) (wakeup : c.wakeup ≡ true) (
   owing l = owes_end mine (TxDone a) l
 
   -- the kick is still to come at a place
-  abbrev Comes : Place → Type 0
+  abbrev Comes : Stage → Type 0
   Comes (Kicking place pair) = (pair ≡ mine) ⊎ ((pair ≡ pair_of c a 0) × Comes place)
   Comes TxTold = Unit {0}
   Comes place = ⊥
@@ -219,18 +219,18 @@ module _ (c : Config) (a : ℕ) (one : IsApp c a) (wakeup : c.wakeup ≡ true) (
   told_entries (told_closing shut n) noted kept l known h asked q = λ o. absurd (h (as_before l (Swap (Closing shut.socket) 1) (Old n) (others (owing l) true) o))
   told_entries e noted kept l known h asked q = λ o. absurd (h (as_before l (call_at c a (point_of e) kept) (reply_of e) refl o))
 
-  told_passes : AtPasses c a AtTold
-  told_passes (without_need place need pair) noted kept l = λ h off o. absurd (h o)
-  told_passes (needs_none place need pair n) noted kept l = λ h e o. absurd (h o)
-  told_passes (needs_kick place need pair n) noted kept l = λ h e o. absurd (h o)
-  told_passes told_quietly noted kept l = λ h off. absurd (let no : true ≡ false = sym wakeup ∙ off in cc)
-  told_passes told_both noted kept l = λ h on o. either c a side below
-  told_passes (closed_quietly shut) noted kept l = λ h off. h
-  told_passes (closed_kicks shut) noted kept l = λ h on o. absurd (h o)
-  told_passes p noted kept l = λ h e. h
+  told_silent : AtSilent c a AtTold
+  told_silent (without_need place need pair) noted kept l = λ h off o. absurd (h o)
+  told_silent (needs_none place need pair n) noted kept l = λ h e o. absurd (h o)
+  told_silent (needs_kick place need pair n) noted kept l = λ h e o. absurd (h o)
+  told_silent told_quietly noted kept l = λ h off. absurd (let no : true ≡ false = sym wakeup ∙ off in cc)
+  told_silent told_both noted kept l = λ h on o. either c a side below
+  told_silent (closed_quietly shut) noted kept l = λ h off. h
+  told_silent (closed_kicks shut) noted kept l = λ h on o. absurd (h o)
+  told_silent p noted kept l = λ h e. h
 
   pub told_law : IsLaw c a Anything AtTold AskedTold (λ kept l. Unit {0})
-  told_law = record { calls = told_calls; entries = told_entries; passes = told_passes; ends = λ noted kept l done h. tt }
+  told_law = record { calls = told_calls; entries = told_entries; silent = told_silent; ends = λ noted kept l done h. tt }
 
 pub pays_end_at_once : PaysEndAtOnce
 pays_end_at_once m c a l kept call rest side one wakeup below asks owes =

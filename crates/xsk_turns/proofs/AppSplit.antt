@@ -298,7 +298,7 @@ module _ (c : Config) (a : ℕ) (one : IsApp c a) (closes : c.closing ≡ None) 
   pub lanes_law : IsLaw c a (Fitting c) (lanes.At plain c a one) (lanes.Asked plain c a one) (lanes.Ended plain c a one)
   lanes_law =
       let on = lanes.law plain c a one in
-      record { calls = on.calls; entries = λ e noted kept l known h asked q. on.entries e noted kept l known h asked tt; passes = on.passes; ends = on.ends }
+      record { calls = on.calls; entries = λ e noted kept l known h asked q. on.entries e noted kept l known h asked tt; silent = on.silent; ends = on.ends }
 
   pub lanes_jumps : Jumps (lanes.At plain c a one)
   lanes_jumps = record {

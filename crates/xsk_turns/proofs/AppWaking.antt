@@ -10,7 +10,7 @@ use Rattle.xsk_turns.specs.AppTurns.{AppKept, pair_of, app_turn, app_start_by}
 use Rattle.xsk_turns.proofs.AppPlaces.{class_below, socket_driver}
 use Rattle.xsk_turns.proofs.AppShut.{shut_mine, shut_driver}
 use Rattle.xsk_turns.proofs.Walks.{Anything, meet_anything}
-use Rattle.xsk_turns.proofs.AppWalk.{Place, Waking, Looked, Kicking, TxTold, Shutting, Family, Point, LookNeed, KickDriver, call_at, tx_submitted, fill_submitted, told_tx_done, told_closing, looked_need, kicked, point_of, reply_of, begins, without_need, needs_none, needs_kick, told_quietly, told_both, closed_quietly, closed_kicks, AtCalls, AtEntries, AtPasses, Said, IsLaw, at_call, of_run}
+use Rattle.xsk_turns.proofs.AppWalk.{Stage, Waking, Looked, Kicking, TxTold, Shutting, Family, Point, LookNeed, KickDriver, call_at, tx_submitted, fill_submitted, told_tx_done, told_closing, looked_need, kicked, point_of, reply_of, begins, without_need, needs_none, needs_kick, told_quietly, told_both, closed_quietly, closed_kicks, AtCalls, AtEntries, AtSilent, Said, IsLaw, at_call, of_run}
 
 -- ---- it clears no kick
 
@@ -36,13 +36,13 @@ module _ (c : Config) (a : ℕ) where
   sets = record {
     calls = λ p noted kept l known h. h;
     entries = λ e noted kept l known h asked q. sets_more l (call_at c a (point_of e) kept) (reply_of e) h (call_sets (point_of e) kept);
-    passes = sets_passes;
+    silent = sets_silent;
     ends = λ noted kept l done h. h;
   }
     where
-      sets_passes : AtPasses c a Sets
-      sets_passes begins noted kept l = λ h e. h
-      sets_passes p noted kept l = λ h e. h
+      sets_silent : AtSilent c a Sets
+      sets_silent begins noted kept l = λ h e. h
+      sets_silent p noted kept l = λ h e. h
 
 pub only_sets_kicks : OnlySetsKicks
 only_sets_kicks m c a l one run =
@@ -53,7 +53,7 @@ only_sets_kicks m c a l one run =
 
 module _ (c : Config) (a : ℕ) (one : IsApp c a) (wakeup : c.wakeup ≡ true) where
   -- the calls that are due at a place
-  abbrev due_at : Place → List Call
+  abbrev due_at : Stage → List Call
   due_at (Waking place need pair) = Look need ∷ due_at place
   due_at (Looked place need pair n) = cond (eqb n 1) (kick_of pair) [] ++ due_at place
   due_at (Kicking place pair) = kick_of pair ++ due_at place
@@ -65,7 +65,7 @@ module _ (c : Config) (a : ℕ) (one : IsApp c a) (wakeup : c.wakeup ≡ true) w
   abbrev IsFlagOf : Mark → ℕ → Type 0
   IsFlagOf need pair = (n : ℕ) → flag_due c need (Old n) ≡ cond (eqb n 1) (kick_of pair) []
 
-  abbrev HasFlags : Place → Type 0
+  abbrev HasFlags : Stage → Type 0
   HasFlags (Waking place need pair) = IsFlagOf need pair × HasFlags place
   HasFlags (Looked place need pair n) = HasFlags place
   HasFlags (Kicking place pair) = HasFlags place
@@ -109,18 +109,18 @@ module _ (c : Config) (a : ℕ) (one : IsApp c a) (wakeup : c.wakeup ≡ true) w
   entries (kicked place pair n) noted kept l known h asked q = (follows l (Swap (Kick pair) 1) (Old n) (kick_of pair ++ due_at place) h.0, h.1)
   entries e noted kept l known h asked q = (follows l (call_at c a (point_of e) kept) (reply_of e) [] h.0, tt)
 
-  passes : AtPasses c a At
-  passes (without_need place need pair) noted kept l = λ h off. absurd (let no : true ≡ false = sym wakeup ∙ off in cc)
-  passes (needs_none place need pair n) noted kept l = λ h e. (h.0 ∙ ap (λ b. cond b (kick_of pair) [] ++ due_at place) e, h.1)
-  passes (needs_kick place need pair n) noted kept l = λ h e. (h.0 ∙ ap (λ b. cond b (kick_of pair) [] ++ due_at place) e, h.1)
-  passes told_quietly noted kept l = λ h off. absurd (let no : true ≡ false = sym wakeup ∙ off in cc)
-  passes told_both noted kept l = λ h e. h
-  passes (closed_quietly shut) noted kept l = λ h off. absurd (let no : true ≡ false = sym wakeup ∙ off in cc)
-  passes (closed_kicks shut) noted kept l = λ h e. h
-  passes p noted kept l = λ h e. h
+  silent : AtSilent c a At
+  silent (without_need place need pair) noted kept l = λ h off. absurd (let no : true ≡ false = sym wakeup ∙ off in cc)
+  silent (needs_none place need pair n) noted kept l = λ h e. (h.0 ∙ ap (λ b. cond b (kick_of pair) [] ++ due_at place) e, h.1)
+  silent (needs_kick place need pair n) noted kept l = λ h e. (h.0 ∙ ap (λ b. cond b (kick_of pair) [] ++ due_at place) e, h.1)
+  silent told_quietly noted kept l = λ h off. absurd (let no : true ≡ false = sym wakeup ∙ off in cc)
+  silent told_both noted kept l = λ h e. h
+  silent (closed_quietly shut) noted kept l = λ h off. absurd (let no : true ≡ false = sym wakeup ∙ off in cc)
+  silent (closed_kicks shut) noted kept l = λ h e. h
+  silent p noted kept l = λ h e. h
 
   law : IsLaw c a Anything At Asked Ended
-  law = record { calls = calls; entries = entries; passes = passes; ends = λ noted kept l done h. tt }
+  law = record { calls = calls; entries = entries; silent = silent; ends = λ noted kept l done h. tt }
 
 pub wakes_at_once : WakesAtOnce
 wakes_at_once m c a l kept call rest one wakeup asks =

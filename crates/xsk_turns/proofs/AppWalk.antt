@@ -21,20 +21,20 @@ use Rattle.xsk_turns.proofs.Walks.{Premise, Law, Due, nothing_due, submit_due, r
 -- to a place it may have to look at a ring's need-wakeup flag, has looked at it, with this number, or has to wake a driver; and
 -- it has told that it sends nothing more. It lowers the cells of the socket that it closes, from this one on, has closed it, and
 -- is at a lane whose items it gives back.
-pub data Place : Type 0 where
-  Lanes : ℕ → Place
-  Lane : ℕ → Due → Place
-  Sides : ℕ → Place
-  Side : ℕ → Due → Place
-  Ending : Place
-  Looking : ℕ → Place
-  Waking : Place → Mark → ℕ → Place
-  Looked : Place → Mark → ℕ → ℕ → Place
-  Kicking : Place → ℕ → Place
-  TxTold : Place
-  Lowering : Shut → ℕ → Place
-  Shutting : Shut → Place
-  Draining : ℕ → Due → Place
+pub data Stage : Type 0 where
+  Lanes : ℕ → Stage
+  Lane : ℕ → Due → Stage
+  Sides : ℕ → Stage
+  Side : ℕ → Due → Stage
+  Ending : Stage
+  Looking : ℕ → Stage
+  Waking : Stage → Mark → ℕ → Stage
+  Looked : Stage → Mark → ℕ → ℕ → Stage
+  Kicking : Stage → ℕ → Stage
+  TxTold : Stage
+  Lowering : Shut → ℕ → Stage
+  Shutting : Shut → Stage
+  Draining : ℕ → Due → Stage
 
 abbrev pub is_need : Mark → Bool
 is_need (NeedFill d) = true
@@ -42,14 +42,14 @@ is_need (NeedTx s) = true
 is_need mark = false
 
 -- the place after a Submit on TX, and after one on FILL
-abbrev pub tx_filled : Config → ℕ → ℕ → Place
+abbrev pub tx_filled : Config → ℕ → ℕ → Stage
 tx_filled c a lane = Waking (Lanes (lane + 1)) (NeedTx (tx_of c a lane)) (tx_pair c a lane)
 
-abbrev pub fill_filled : ℕ → ℕ → Place
+abbrev pub fill_filled : ℕ → ℕ → Stage
 fill_filled side home = Waking (Side side nothing_due) (NeedFill home) home
 
 abbrev pub Family : Type 1
-Family = Place → AppNoted → AppKept → List Told → Type 0
+Family = Stage → AppNoted → AppKept → List Told → Type 0
 
 -- a lane or a side wasn't empty
 abbrev pub busy_lane : AppNoted → AppNoted
@@ -72,8 +72,8 @@ pub data Point : Type 0 where
   LookRxDone : ℕ → Point
   TellTxDone : Point
   LookGone : ℕ → Point
-  LookNeed : Place → Mark → ℕ → Point
-  KickDriver : Place → ℕ → Point
+  LookNeed : Stage → Mark → ℕ → Point
+  KickDriver : Stage → ℕ → Point
   LowerCell : Shut → ℕ → Point
   TellClosing : Shut → Point
   PeekDrain : ℕ → Point
@@ -91,7 +91,7 @@ abbrev pub group : Config → Frame → List Frame → List Frame
 group c frame frames = group_of (pool_of c) (batch_of c) frame frames
 
 -- where each call is given, the call, and what is kept once it is given: a Submit takes its items along
-abbrev pub asked : Config → ℕ → Point → AppKept → Place × Call × AppKept
+abbrev pub asked : Config → ℕ → Point → AppKept → Stage × Call × AppKept
 asked c a (PeekRx lane) kept = (Lanes lane, Peek (Rx (rx_of c a lane)) (batch_of c), kept)
 asked c a (ReleaseRx lane n) kept = (Lane lane (release_due (Rx (rx_of c a lane)) n), Release (Rx (rx_of c a lane)) n, kept)
 asked c a (ReserveTx lane) kept = (Lane lane nothing_due, Reserve (Tx (tx_of c a lane)) (length (pending_at kept lane)), kept)
@@ -162,8 +162,8 @@ pub data Entry : Type 0 where
   looked_rx_done : ℕ → ℕ → Entry
   told_tx_done : ℕ → Entry
   looked_gone : ℕ → ℕ → Entry
-  looked_need : Place → Mark → ℕ → ℕ → Entry
-  kicked : Place → ℕ → ℕ → Entry
+  looked_need : Stage → Mark → ℕ → ℕ → Entry
+  kicked : Stage → ℕ → ℕ → Entry
   lowered : Shut → ℕ → ℕ → Entry
   told_closing : Shut → ℕ → Entry
   drain_empty : ℕ → Entry
@@ -203,7 +203,7 @@ abbrev pub reply_of : Entry → Reply
 reply_of e = (told e).1
 
 -- where each leads, with what is noted and kept there
-abbrev pub leads : Config → ℕ → Entry → AppNoted → AppKept → Place × AppNoted × AppKept
+abbrev pub leads : Config → ℕ → Entry → AppNoted → AppKept → Stage × AppNoted × AppKept
 leads c a (rx_empty lane) noted kept = (Lanes (lane + 1), noted, kept)
 leads c a (rx_items lane items) noted kept = (Lane lane (release_due (Rx (rx_of c a lane)) (length items)), busy_lane noted, received c a lane kept items)
 leads c a (rx_released lane n) noted kept = (Lane lane nothing_due, noted, kept)
@@ -230,26 +230,26 @@ leads c a (looked_acked shut n) noted kept = (Ending, noted, with_acked kept n)
 
 -- ---- what goes on without a call
 
-pub data Pass : Type 0 where
-  no_lanes : Pass
-  has_items : ℕ → Item → List Item → Pass
-  lanes_done : Pass
-  has_frames : ℕ → Frame → List Frame → Pass
-  all_given : ℕ → Pass
-  sides_done : Pass
-  looks : Pass
-  rests : Pass
-  skips : ℕ → Pass
-  begins : Pass
-  without_need : Place → Mark → ℕ → Pass
-  needs_none : Place → Mark → ℕ → ℕ → Pass
-  needs_kick : Place → Mark → ℕ → ℕ → Pass
-  told_quietly : Pass
-  told_both : Pass
-  closes : Shut → Pass
-  keeps_cell : Shut → ℕ → Pass
-  closed_quietly : Shut → Pass
-  closed_kicks : Shut → Pass
+pub data Silent : Type 0 where
+  no_lanes : Silent
+  has_items : ℕ → Item → List Item → Silent
+  lanes_done : Silent
+  has_frames : ℕ → Frame → List Frame → Silent
+  all_given : ℕ → Silent
+  sides_done : Silent
+  looks : Silent
+  rests : Silent
+  skips : ℕ → Silent
+  begins : Silent
+  without_need : Stage → Mark → ℕ → Silent
+  needs_none : Stage → Mark → ℕ → ℕ → Silent
+  needs_kick : Stage → Mark → ℕ → ℕ → Silent
+  told_quietly : Silent
+  told_both : Silent
+  closes : Shut → Silent
+  keeps_cell : Shut → ℕ → Silent
+  closed_quietly : Shut → Silent
+  closed_kicks : Shut → Silent
 
 -- whether it has ended, by what it noted and keeps
 abbrev pub is_over : AppNoted → AppKept → Bool
@@ -263,28 +263,28 @@ Looks noted kept = ((kept.tx_done ≡ false) × (both kept.seen ≡ false)) ⊎ 
 abbrev pub flags_of : AppKept → List Bool
 flags_of kept = cond kept.tx_done kept.gone kept.seen
 
-abbrev pub Passing : Config → ℕ → Family → Pass → AppNoted → AppKept → List Told → Type 0
-Passing c a At no_lanes noted kept l = At (Lanes 0) noted kept l → kept.tx_done ≡ true → At (Sides 0) noted kept l
-Passing c a At (has_items lane item items) noted kept l = At (Lanes lane) noted kept l → pending_at kept lane ≡ item ∷ items → At (Lane lane nothing_due) (busy_lane noted) kept l
-Passing c a At lanes_done noted kept l = At (Lanes (lanes_of c)) noted kept l → kept.tx_done ≡ false → At (Sides 0) noted kept l
-Passing c a At (has_frames side frame frames) noted kept l = At (Sides side) noted kept l → back_at kept side ≡ frame ∷ frames → At (Side side nothing_due) (busy_side noted) kept l
-Passing c a At (all_given side) noted kept l = At (Side side nothing_due) noted (with_back kept side []) l → Unit {0} → At (Sides (side + 1)) noted (with_back kept side []) l
-Passing c a At sides_done noted kept l = At (Sides 2) noted kept l → Unit {0} → At Ending noted kept l
-Passing c a At looks noted kept l = At Ending noted kept l → Looks noted kept → At (Looking 0) noted kept l
-Passing c a At rests noted kept l =
+abbrev pub LeadsOn : Config → ℕ → Family → Silent → AppNoted → AppKept → List Told → Type 0
+LeadsOn c a At no_lanes noted kept l = At (Lanes 0) noted kept l → kept.tx_done ≡ true → At (Sides 0) noted kept l
+LeadsOn c a At (has_items lane item items) noted kept l = At (Lanes lane) noted kept l → pending_at kept lane ≡ item ∷ items → At (Lane lane nothing_due) (busy_lane noted) kept l
+LeadsOn c a At lanes_done noted kept l = At (Lanes (lanes_of c)) noted kept l → kept.tx_done ≡ false → At (Sides 0) noted kept l
+LeadsOn c a At (has_frames side frame frames) noted kept l = At (Sides side) noted kept l → back_at kept side ≡ frame ∷ frames → At (Side side nothing_due) (busy_side noted) kept l
+LeadsOn c a At (all_given side) noted kept l = At (Side side nothing_due) noted (with_back kept side []) l → Unit {0} → At (Sides (side + 1)) noted (with_back kept side []) l
+LeadsOn c a At sides_done noted kept l = At (Sides 2) noted kept l → Unit {0} → At Ending noted kept l
+LeadsOn c a At looks noted kept l = At Ending noted kept l → Looks noted kept → At (Looking 0) noted kept l
+LeadsOn c a At rests noted kept l =
     At Ending noted kept l → (kept.tx_done ≡ false) × (both kept.seen ≡ true) × (may_tell noted kept ≡ false) → At (Looking 2) noted kept l
-Passing c a At (skips side) noted kept l = At (Looking side) noted kept l → is_set (flags_of kept) side ≡ true → At (Looking (side + 1)) noted kept l
-Passing c a At begins noted kept l = At (Looking 2) noted kept l → Unit {0} → At (Lanes 0) (noted_first kept) kept l
-Passing c a At (without_need place need pair) noted kept l = At (Waking place need pair) noted kept l → c.wakeup ≡ false → At place noted kept l
-Passing c a At (needs_none place need pair n) noted kept l = At (Looked place need pair n) noted kept l → eqb n 1 ≡ false → At place noted kept l
-Passing c a At (needs_kick place need pair n) noted kept l = At (Looked place need pair n) noted kept l → eqb n 1 ≡ true → At (Kicking place pair) noted kept l
-Passing c a At told_quietly noted kept l = At TxTold noted kept l → c.wakeup ≡ false → At (Looking 2) noted kept l
-Passing c a At told_both noted kept l = At TxTold noted kept l → c.wakeup ≡ true → At (Kicking (Kicking (Looking 2) (pair_of c a 1)) (pair_of c a 0)) noted kept l
-Passing c a At (closes shut) noted kept l = At (Lanes 0) noted kept l → (shut_of c a ≡ Some shut) × (may_close c shut kept ≡ true) × (kept.tx_done ≡ false) → At (Lowering shut 0) noted kept l
-Passing c a At (keeps_cell shut index) noted kept l =
+LeadsOn c a At (skips side) noted kept l = At (Looking side) noted kept l → is_set (flags_of kept) side ≡ true → At (Looking (side + 1)) noted kept l
+LeadsOn c a At begins noted kept l = At (Looking 2) noted kept l → Unit {0} → At (Lanes 0) (noted_first kept) kept l
+LeadsOn c a At (without_need place need pair) noted kept l = At (Waking place need pair) noted kept l → c.wakeup ≡ false → At place noted kept l
+LeadsOn c a At (needs_none place need pair n) noted kept l = At (Looked place need pair n) noted kept l → eqb n 1 ≡ false → At place noted kept l
+LeadsOn c a At (needs_kick place need pair n) noted kept l = At (Looked place need pair n) noted kept l → eqb n 1 ≡ true → At (Kicking place pair) noted kept l
+LeadsOn c a At told_quietly noted kept l = At TxTold noted kept l → c.wakeup ≡ false → At (Looking 2) noted kept l
+LeadsOn c a At told_both noted kept l = At TxTold noted kept l → c.wakeup ≡ true → At (Kicking (Kicking (Looking 2) (pair_of c a 1)) (pair_of c a 0)) noted kept l
+LeadsOn c a At (closes shut) noted kept l = At (Lanes 0) noted kept l → (shut_of c a ≡ Some shut) × (may_close c shut kept ≡ true) × (kept.tx_done ≡ false) → At (Lowering shut 0) noted kept l
+LeadsOn c a At (keeps_cell shut index) noted kept l =
     At (Lowering shut index) noted kept l → (index < length (shut_cells c shut)) × (eqb (slice_index (shut_cells c shut) index) (suc shut.socket) ≡ false) → At (Lowering shut (index + 1)) noted kept l
-Passing c a At (closed_quietly shut) noted kept l = At (Shutting shut) noted kept l → c.wakeup ≡ false → At (Lanes 0) noted kept l
-Passing c a At (closed_kicks shut) noted kept l = At (Shutting shut) noted kept l → (c.wakeup ≡ true) × (shut_of c a ≡ Some shut) → At (Kicking (Lanes 0) (pair_of c a shut.side)) noted kept l
+LeadsOn c a At (closed_quietly shut) noted kept l = At (Shutting shut) noted kept l → c.wakeup ≡ false → At (Lanes 0) noted kept l
+LeadsOn c a At (closed_kicks shut) noted kept l = At (Shutting shut) noted kept l → (c.wakeup ≡ true) × (shut_of c a ≡ Some shut) → At (Kicking (Lanes 0) (pair_of c a shut.side)) noted kept l
 
 -- where a socket may be closed, it isn't
 not_true : (b : Bool) → not b ≡ true → b ≡ false
@@ -312,13 +312,13 @@ AtEntries c a Q At A = (e : Entry) (noted : AppNoted) (kept : AppKept) (l : List
     → Q (kept_at c a (point_of e) kept) l (call_at c a (point_of e) kept) (reply_of e)
     → At (leads c a e noted kept).0 (leads c a e noted kept).1 (leads c a e noted kept).2 (with_told l (call_at c a (point_of e) kept) (reply_of e))
 
-abbrev pub AtPasses : Config → ℕ → Family → Type 0
-AtPasses c a At = (p : Pass) (noted : AppNoted) (kept : AppKept) (l : List Told) → Passing c a At p noted kept l
+abbrev pub AtSilent : Config → ℕ → Family → Type 0
+AtSilent c a At = (p : Silent) (noted : AppNoted) (kept : AppKept) (l : List Told) → LeadsOn c a At p noted kept l
 
 pub record IsLaw (c : Config) (a : ℕ) (Q : Premise AppKept) (At : Family) (A : Said) (E : AppKept → List Told → Type 0) : Type 0 where
   pub calls : AtCalls c a At A
   pub entries : AtEntries c a Q At A
-  pub passes : AtPasses c a At
+  pub silent : AtSilent c a At
   pub ends : (noted : AppNoted) (kept : AppKept) (l : List Told) → (kept.tx_done ≡ true) × (is_over noted kept ≡ true) → At Ending noted kept l → E kept l
 
 module _ (c : Config) (a : ℕ) (one : IsApp c a) (Q : Premise AppKept) (At : Family) (A : Said) (E : AppKept → List Told → Type 0) (is : IsLaw c a Q At A E) where
@@ -328,7 +328,7 @@ module _ (c : Config) (a : ℕ) (one : IsApp c a) (Q : Premise AppKept) (At : Fa
   abbrev pub Along : Script AppKept → List Told → Type 0
   Along s l = Holds Q law s l
 
-  abbrev pub Continues : Place → (AppNoted → AppKept → Script AppKept) → Type 0
+  abbrev pub Continues : Stage → (AppNoted → AppKept → Script AppKept) → Type 0
   Continues place next = (noted : AppNoted) (kept : AppKept) (l : List Told) → At place noted kept l → Along (next noted kept) l
 
   -- while it still sends
@@ -337,14 +337,14 @@ module _ (c : Config) (a : ℕ) (one : IsApp c a) (Q : Premise AppKept) (At : Fa
 
   -- ---- need-wakeup
 
-  go_kick : (place : Place) (pair : ℕ) (noted : AppNoted) (kept : AppKept) (next : Script AppKept) (l : List Told) → c.wakeup ≡ true → At (Kicking place pair) noted kept l
+  go_kick : (place : Stage) (pair : ℕ) (noted : AppNoted) (kept : AppKept) (next : Script AppKept) (l : List Told) → c.wakeup ≡ true → At (Kicking place pair) noted kept l
       → ((m : List Told) → At place noted kept m → Along next m) → Along (kick pair kept next) l
   go_kick place pair noted kept next l on h go =
       let call = Swap (Kick pair) 1 in
       let asked = is.calls (KickDriver place pair) noted kept l on h in
       (asked, at_old Q law kept call l (λ old. next) (λ n q. go (with_told l call (Old n)) (is.entries (kicked place pair n) noted kept l on h asked q)))
 
-  go_wake : (place : Place) (need : Mark) (pair : ℕ) (noted : AppNoted) (kept : AppKept) (next : Script AppKept) (l : List Told) → is_need need ≡ true
+  go_wake : (place : Stage) (need : Mark) (pair : ℕ) (noted : AppNoted) (kept : AppKept) (next : Script AppKept) (l : List Told) → is_need need ≡ true
       → At (Waking place need pair) noted kept l → ((m : List Told) → At place noted kept m → Along next m) → Along (wake c need pair kept next) l
   go_wake place need pair noted kept next l flag h go = by_case Q law c.wakeup _ _ l
       (λ on.
@@ -355,10 +355,10 @@ module _ (c : Config) (a : ℕ) (one : IsApp c a) (Q : Premise AppKept) (At : Fa
             (λ n q.
             let m = with_told l call (Old n) in
             let now = is.entries (looked_need place need pair n) noted kept l (on, flag) h asked q in
-            by_case Q law (eqb n 1) _ _ m (λ e. go_kick place pair noted kept next m on (is.passes (needs_kick place need pair n) noted kept m now e) go)
-            (λ e. go m (is.passes (needs_none place need pair n) noted kept m now e))),
+            by_case Q law (eqb n 1) _ _ m (λ e. go_kick place pair noted kept next m on (is.silent (needs_kick place need pair n) noted kept m now e) go)
+            (λ e. go m (is.silent (needs_none place need pair n) noted kept m now e))),
       ))
-      (λ off. go l (is.passes (without_need place need pair) noted kept l h off))
+      (λ off. go l (is.silent (without_need place need pair) noted kept l h off))
 
   -- ---- the lanes
 
@@ -406,7 +406,7 @@ module _ (c : Config) (a : ℕ) (one : IsApp c a) (Q : Premise AppKept) (At : Fa
             (λ q. go noted kept (with_told l call Empty) known.1 (is.entries (rx_empty lane) noted kept l (known.0, known.1, e, known.2) h asked q)),
       )
   go_lane lane (item ∷ items) noted kept next l known e h go =
-      go_pass_on lane (busy_lane noted) kept (next (busy_lane noted)) l known (is.passes (has_items lane item items) noted kept l h e) (go (busy_lane noted))
+      go_pass_on lane (busy_lane noted) kept (next (busy_lane noted)) l known (is.silent (has_items lane item items) noted kept l h e) (go (busy_lane noted))
 
   go_drain : (lane : ℕ) (noted : AppNoted) (kept : AppKept) (next : AppNoted → AppKept → Script AppKept) (l : List Told) → (lane < lanes_of c) × (kept.tx_done ≡ false) × (drains c a lane kept ≡ true)
       → At (Lanes lane) noted kept l → ((noted : AppNoted) → Sends (lane + 1) noted (next noted)) → Along (drain_lane c a lane noted kept next) l
@@ -433,7 +433,7 @@ module _ (c : Config) (a : ℕ) (one : IsApp c a) (Q : Premise AppKept) (At : Fa
   go_lanes : (more lane : ℕ) (noted : AppNoted) (kept : AppKept) (next : AppNoted → AppKept → Script AppKept) (l : List Told) → lane + more ≡ lanes_of c → kept.tx_done ≡ false
       → At (Lanes lane) noted kept l → Continues (Sides 0) next → Along (visit_lanes c a more lane noted kept next) l
   go_lanes zero lane noted kept next l e sends h go =
-      let all : lane ≡ lanes_of c = omega (arith, e) in go noted kept l (is.passes lanes_done noted kept l (subst (λ k. At (Lanes k) noted kept l) all h) sends)
+      let all : lane ≡ lanes_of c = omega (arith, e) in go noted kept l (is.silent lanes_done noted kept l (subst (λ k. At (Lanes k) noted kept l) all h) sends)
   go_lanes (suc more) lane noted kept next l e sends h go =
       let rest = λ (noted : AppNoted) (kept : AppKept) (l : List Told) (sends : kept.tx_done ≡ false) (h : At (Lanes (lane + 1)) noted kept l). go_lanes more (lane + 1) noted kept next l (omega (arith, e)) sends h go in
       by_case Q law (drains c a lane kept) _ _ l
@@ -444,8 +444,8 @@ module _ (c : Config) (a : ℕ) (one : IsApp c a) (Q : Premise AppKept) (At : Fa
 
   go_give : (side done : ℕ) (frames : List Frame) (noted : AppNoted) (kept : AppKept) (next : AppNoted → AppKept → Script AppKept) (l : List Told) → side < 2
       → At (Side side nothing_due) noted (with_back kept side (drop done frames)) l → Continues (Sides (side + 1)) next → Along (give_back c side done frames kept (next noted)) l
-  go_give side zero [] noted kept next l below h go = go noted (with_back kept side []) l (is.passes (all_given side) noted kept l h tt)
-  go_give side (suc done) [] noted kept next l below h go = go noted (with_back kept side []) l (is.passes (all_given side) noted kept l h tt)
+  go_give side zero [] noted kept next l below h go = go noted (with_back kept side []) l (is.silent (all_given side) noted kept l h tt)
+  go_give side (suc done) [] noted kept next l below h go = go noted (with_back kept side []) l (is.silent (all_given side) noted kept l h tt)
   go_give side (suc done) (frame ∷ frames) noted kept next l below h go = go_give side done frames noted kept next l below h go
   go_give side zero (frame ∷ frames) noted kept next l below h go =
       let n = length (group c frame frames) in
@@ -498,12 +498,12 @@ module _ (c : Config) (a : ℕ) (one : IsApp c a) (Q : Premise AppKept) (At : Fa
   go_side side (frame ∷ frames) noted kept next l below e h go =
       let same : with_back kept side (frame ∷ frames) ≡ kept = ap (with_back kept side) (sym e) ∙ with_back-same kept side in
       go_give side zero (frame ∷ frames) (busy_side noted) kept next l below
-      (subst (λ k. At (Side side nothing_due) (busy_side noted) k l) (sym same) (is.passes (has_frames side frame frames) noted kept l h e)) go
+      (subst (λ k. At (Side side nothing_due) (busy_side noted) k l) (sym same) (is.silent (has_frames side frame frames) noted kept l h e)) go
 
   go_sides : (more side : ℕ) (noted : AppNoted) (kept : AppKept) (next : AppNoted → AppKept → Script AppKept) (l : List Told) → side + more ≡ 2
       → At (Sides side) noted kept l → Continues Ending next → Along (visit_sides c a more side noted kept next) l
   go_sides zero side noted kept next l e h go =
-      let all : side ≡ 2 = omega (arith, e) in go noted kept l (is.passes sides_done noted kept l (subst (λ k. At (Sides k) noted kept l) all h) tt)
+      let all : side ≡ 2 = omega (arith, e) in go noted kept l (is.silent sides_done noted kept l (subst (λ k. At (Sides k) noted kept l) all h) tt)
   go_sides (suc more) side noted kept next l e h go =
       go_side side (back_at kept side) noted kept (λ noted kept. visit_sides c a more (side + 1) noted kept next) l (omega (arith, e)) refl h
       (λ noted kept l h. go_sides more (side + 1) noted kept next l (omega (arith, e)) h go)
@@ -516,10 +516,10 @@ module _ (c : Config) (a : ℕ) (one : IsApp c a) (Q : Premise AppKept) (At : Fa
       → A kept (Look (mark side)) l × ((n : ℕ) → Q kept l (Look (mark side)) (Old n) → At (Looking (side + 1)) noted (with_flag kept side n) (with_told l (Look (mark side)) (Old n))))
       → (more side : ℕ) (kept : AppKept) (l : List Told) → side + more ≡ 2 → IsFor kept → At (Looking side) noted kept l → Along (look_marks flags mark with_flag more side kept) l
   go_marks flags mark with_flag IsFor noted stays same step zero side kept l e is_for h =
-      let all : side ≡ 2 = omega (arith, e) in is.passes begins noted kept l (subst (λ k. At (Looking k) noted kept l) all h) tt
+      let all : side ≡ 2 = omega (arith, e) in is.silent begins noted kept l (subst (λ k. At (Looking k) noted kept l) all h) tt
   go_marks flags mark with_flag IsFor noted stays same step (suc more) side kept l e is_for h =
       let on = go_marks flags mark with_flag IsFor noted stays same step more (side + 1) in
-      by_case Q law (is_set (flags kept) side) _ _ l (λ f. on kept l (omega (arith, e)) is_for (is.passes (skips side) noted kept l h (ap (λ fs. is_set fs side) (same kept is_for) ∙ f)))
+      by_case Q law (is_set (flags kept) side) _ _ l (λ f. on kept l (omega (arith, e)) is_for (is.silent (skips side) noted kept l h (ap (λ fs. is_set fs side) (same kept is_for) ∙ f)))
       (λ f.
       let now = step side kept l (omega (arith, e)) f is_for h in (
         now.0,
@@ -553,16 +553,16 @@ module _ (c : Config) (a : ℕ) (one : IsApp c a) (Q : Premise AppKept) (At : Fa
 
   go_wake_both : (noted : AppNoted) (kept : AppKept) (l : List Told) → At TxTold noted kept l → Along (wake_both c a kept) l
   go_wake_both noted kept l h = by_case Q law c.wakeup _ _ l
-      (λ on. go_kick (Kicking (Looking 2) (pair_of c a 1)) (pair_of c a 0) noted kept _ l on (is.passes told_both noted kept l h on)
-      (λ m now. go_kick (Looking 2) (pair_of c a 1) noted kept (again kept) m on now (λ k over. is.passes begins noted kept k over tt)))
-      (λ off. is.passes begins noted kept l (is.passes told_quietly noted kept l h off) tt)
+      (λ on. go_kick (Kicking (Looking 2) (pair_of c a 1)) (pair_of c a 0) noted kept _ l on (is.silent told_both noted kept l h on)
+      (λ m now. go_kick (Looking 2) (pair_of c a 1) noted kept (again kept) m on now (λ k over. is.silent begins noted kept k over tt)))
+      (λ off. is.silent begins noted kept l (is.silent told_quietly noted kept l h off) tt)
 
   go_end_by : Continues Ending (end_by c a)
   go_end_by noted kept l h =
       let call = Swap (TxDone a) 1 in
       let told : AppKept = record kept { tx_done = true } in
       by_case Q law kept.tx_done _ _ l
-      (λ done. by_case Q law (is_over noted kept) _ _ l (λ e. is.ends noted kept l (done, e) h) (λ e. go_gone noted kept l done (is.passes looks noted kept l h (inr (done, e)))))
+      (λ done. by_case Q law (is_over noted kept) _ _ l (λ e. is.ends noted kept l (done, e) h) (λ e. go_gone noted kept l done (is.silent looks noted kept l h (inr (done, e)))))
       (λ sends. by_case Q law (both kept.seen) _ _ l
       (λ e. by_case Q law (may_tell noted kept) _ _ l
       (λ f.
@@ -571,8 +571,8 @@ module _ (c : Config) (a : ℕ) (one : IsApp c a) (Q : Premise AppKept) (At : Fa
         at_old Q law kept call l (λ old. wake_both c a told)
             (λ n q. go_wake_both noted told (with_told l call (Old n)) (is.entries (told_tx_done n) noted kept l (sends, f) h asked q)),
       ))
-      (λ f. is.passes begins noted kept l (is.passes rests noted kept l h (sends, e, f)) tt))
-      (λ e. go_rx_done noted kept l sends (is.passes looks noted kept l h (inl (sends, e)))))
+      (λ f. is.silent begins noted kept l (is.silent rests noted kept l h (sends, e, f)) tt))
+      (λ e. go_rx_done noted kept l sends (is.silent looks noted kept l h (inl (sends, e)))))
 
   go_acked : (o : Option Shut) (noted : AppNoted) (kept : AppKept) (l : List Told) → shut_of c a ≡ o → At Ending noted kept l → Along (look_acked o kept (end_by c a noted)) l
   go_acked None noted kept l e h = go_end_by noted kept l h
@@ -612,8 +612,8 @@ module _ (c : Config) (a : ℕ) (one : IsApp c a) (Q : Premise AppKept) (At : Fa
             let m = with_told l call (Old n) in
             let told = is.entries (told_closing shut n) noted kept l (e, f, sends) h asked q in
             by_case Q law c.wakeup _ _ m
-            (λ on. go_kick (Lanes 0) pair noted now (turn_lanes c a now) m on (is.passes (closed_kicks shut) noted now m told (on, e)) (λ k over. go_turn_lanes now k sends over))
-            (λ off. go_turn_lanes now m sends (is.passes (closed_quietly shut) noted now m told off))),
+            (λ on. go_kick (Lanes 0) pair noted now (turn_lanes c a now) m on (is.silent (closed_kicks shut) noted now m told (on, e)) (λ k over. go_turn_lanes now k sends over))
+            (λ off. go_turn_lanes now m sends (is.silent (closed_quietly shut) noted now m told off))),
       )
 
   go_lower : (shut : Shut) (more index : ℕ) (kept : AppKept) (l : List Told) → index + more ≡ length (shut_cells c shut) → shut_of c a ≡ Some shut → kept.begun ≡ false → kept.tx_done ≡ false
@@ -633,18 +633,18 @@ module _ (c : Config) (a : ℕ) (one : IsApp c a) (Q : Premise AppKept) (At : Fa
         at_old Q law kept call l (λ old. lower_cells c shut.socket more (index + 1) kept (tell_closing c a shut kept (turn_lanes c a)))
             (λ n q. go_lower shut more (index + 1) kept (with_told l call (Old n)) next e f sends (is.entries (lowered shut index n) noted kept l (e, f, sends, below, g) h asked q)),
       ))
-      (λ g. go_lower shut more (index + 1) kept l next e f sends (is.passes (keeps_cell shut index) noted kept l h (below, g)))
+      (λ g. go_lower shut more (index + 1) kept l next e f sends (is.silent (keeps_cell shut index) noted kept l h (below, g)))
 
   go_close : (o : Option Shut) (kept : AppKept) (l : List Told) → shut_of c a ≡ o → kept.tx_done ≡ false → At (Lanes 0) (noted_first kept) kept l → Along (close_first c a o kept (turn_lanes c a)) l
   go_close None kept l e sends h = go_turn_lanes kept l sends h
   go_close (Some shut) kept l e sends h =
       by_case Q law (may_close c shut kept) _ _ l
-      (λ f. go_lower shut (length (shut_cells c shut)) 0 kept l (omega arith) e (is_fed c shut kept f) sends (is.passes (closes shut) (noted_first kept) kept l h (e, f, sends)))
+      (λ f. go_lower shut (length (shut_cells c shut)) 0 kept l (omega arith) e (is_fed c shut kept f) sends (is.silent (closes shut) (noted_first kept) kept l h (e, f, sends)))
       (λ f. go_turn_lanes kept l sends h)
 
   pub go_turn : (kept : AppKept) (l : List Told) → At (Lanes 0) (noted_first kept) kept l → Along (app_turn c a kept) l
   go_turn kept l h =
-      by_case Q law kept.tx_done _ _ l (λ done. go_turn_sides (noted_first kept) kept l (is.passes no_lanes (noted_first kept) kept l h done))
+      by_case Q law kept.tx_done _ _ l (λ done. go_turn_sides (noted_first kept) kept l (is.silent no_lanes (noted_first kept) kept l h done))
       (λ sends. go_close (shut_of c a) kept l refl sends h)
 
   -- ---- runs

@@ -8,14 +8,14 @@ use Rattle.xsk_model.specs.Config.{classes_of}
 use Rattle.xsk_model.specs.Sent.{bounced_in, bounced_of}
 use Rattle.xsk_turns.proofs.Calls.{Told, with_told, Gone, BouncedMark, Call, Swap, Reply, Old}
 use Rattle.xsk_turns.specs.Turns.{Seat, Judged, Kept, seat_of, start, turn, bounces, bounce_of, bounced_among, disposal_by, disposal_untried}
-use Rattle.xsk_turns.specs.Sending.{bounces_at, bouncing, is_bouncing, BouncesNext, BouncesAll}
+use Rattle.xsk_turns.specs.SentWith.{bounces_at, bouncing, is_bouncing, BouncesNext, BouncesAll}
 use Rattle.xsk_turns.specs.declared.disposal.Disposal.{Disposal}
 use Rattle.xsk_turns.specs.declared.disposal.Disposal.TheVariants.{Delivered, NoFrames, RxFull, TooLong, Runt, Missed, Bounced}
 use Rattle.xsk_prog.specs.declared.rule.Verdict.{Verdict}
 use Rattle.xsk_prog.specs.declared.rule.Verdict.TheVariants.{Drop, Pass, Redirect, Bounce}
 use Rattle.xsk_turns.proofs.Walks.{Anything, meet_anything}
 use Rattle.xsk_turns.proofs.Disposing.{IsOver, over_later}
-use Rattle.xsk_turns.proofs.DriverPlaces.{Family, IsBouncing, SubmitRx, TellBounced, call_at, told_rx_done, told_bounced, looked_none, looked_long, rx_submitted, looked_tx_done, found_end, point_of, reply_of, untried, drops_full, drops_frameless, untried_has, Said, AtCalls, AtEntries, AtPasses, IsLaw}
+use Rattle.xsk_turns.proofs.DriverStages.{Family, IsBouncing, SubmitRx, TellBounced, call_at, told_rx_done, told_bounced, looked_none, looked_long, rx_submitted, looked_tx_done, found_end, point_of, reply_of, untried, drops_full, drops_frameless, untried_has, Said, AtCalls, AtEntries, AtSilent, IsLaw}
 use Rattle.xsk_turns.proofs.DriverWalk.{at_call, at_end}
 
 -- ---- packets that bounce, and those that don't
@@ -151,14 +151,14 @@ module _ (seat : Seat) (input : List Judged) where
       let now = still kept l _ (Old n) refl h in record { done = now.done; all = now.all; count = now.count; sent = now.sent; over = record { none = now.over.none; first = λ x. known.1 } }
   entries e noted kept l known found h a q = still kept l (call_at seat (point_of e) kept) (reply_of e) refl h
 
-  passes : AtPasses seat Anything At
-  passes (untried packet later d) noted kept l = λ h e.
+  silent : AtSilent seat Anything At
+  silent (untried packet later d) noted kept l = λ h e.
       settles kept.disposals kept.coming later kept.rx_done kept.tx_done packet d l e.0 (untried_stays seat packet d e.1) (untried_has (λ d. bounce_of d ≡ 0) refl refl refl refl seat packet d e.1) h
-  passes (drops_full packet s) noted kept l = λ h e.
+  silent (drops_full packet s) noted kept l = λ h e.
       settles kept.disposals kept.coming e.0.next.later kept.rx_done kept.tx_done packet RxFull l e.0.next.is (stays_there packet e.0.next.stays) refl h
-  passes (drops_frameless packet s) noted kept l = λ h e.
+  silent (drops_frameless packet s) noted kept l = λ h e.
       settles kept.disposals kept.coming e.0.next.later kept.rx_done kept.tx_done packet NoFrames l e.0.next.is (stays_there packet e.0.next.stays) refl h
-  passes p noted kept l = λ h e. h
+  silent p noted kept l = λ h e. h
 
   all_bounced : (kept : Kept) (l : List Told) → kept.tx_done ≡ true → Split kept l → Ended kept l
   all_bounced kept l done h =
@@ -166,7 +166,7 @@ module _ (seat : Seat) (input : List Judged) where
       h.sent ∙ ap bouncing (sym (append-nil h.done) ∙ ap (λ ps. h.done ++ ps) (sym none) ∙ h.all)
 
   law : IsLaw seat Anything At Asked Ended
-  law = record { calls = calls; entries = entries; passes = passes; ends = λ noted kept l n known h a q. all_bounced kept _ known.2 (still kept l (Swap (Gone seat.pair) 1) (Old n) refl h) }
+  law = record { calls = calls; entries = entries; silent = silent; ends = λ noted kept l n known h a q. all_bounced kept _ known.2 (still kept l (Swap (Gone seat.pair) 1) (Old n) refl h) }
 
   first : (classes : ℕ) → Split (start classes input) []
   first classes = record { done = []; all = refl; count = refl; sent = refl; over = record { none = λ e. absurd (cc); first = λ e. absurd (cc) } }

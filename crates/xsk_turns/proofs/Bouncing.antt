@@ -9,7 +9,7 @@ use Rattle.xsk_turns.specs.Turns.{Seat, Kept, bounce_of, bounced_among}
 use Rattle.xsk_turns.specs.declared.disposal.Disposal.{Disposal}
 use Rattle.xsk_turns.specs.declared.disposal.Disposal.TheVariants.{Delivered, NoFrames, RxFull, TooLong, Missed, Bounced}
 use Rattle.xsk_turns.proofs.Walks.{Premise}
-use Rattle.xsk_turns.proofs.DriverPlaces.{Family, SubmitRx, TellRxDone, call_at, told_bounced, looked_none, looked_long, rx_submitted, point_of, reply_of, untried, drops_full, drops_frameless, untried_has, Said, AtCalls, AtEntries, AtPasses, IsLaw}
+use Rattle.xsk_turns.proofs.DriverStages.{Family, SubmitRx, TellRxDone, call_at, told_bounced, looked_none, looked_long, rx_submitted, point_of, reply_of, untried, drops_full, drops_frameless, untried_has, Said, AtCalls, AtEntries, AtSilent, IsLaw}
 
 module _ (seat : Seat) (Q : Premise Kept) where
   abbrev pub counted : List Told → ℕ
@@ -62,11 +62,11 @@ module _ (seat : Seat) (Q : Premise Kept) where
       settles kept.disposals (Delivered s) (with_told l call Submitted) refl (still kept.disposals l call Submitted (λ b. refl) h)
   entries e noted kept l known found h a q = still kept.disposals l (call_at seat (point_of e) kept) (reply_of e) (λ b. refl) h
 
-  passes : AtPasses seat Q At
-  passes (untried packet later d) noted kept l = λ h e. settles kept.disposals d l (untried_has (λ d. bounce_of d ≡ 0) refl refl refl refl seat packet d e.1) h
-  passes (drops_full packet s) noted kept l = λ h e. settles kept.disposals RxFull l refl h
-  passes (drops_frameless packet s) noted kept l = λ h e. settles kept.disposals NoFrames l refl h
-  passes p noted kept l = λ h e. h
+  silent : AtSilent seat Q At
+  silent (untried packet later d) noted kept l = λ h e. settles kept.disposals d l (untried_has (λ d. bounce_of d ≡ 0) refl refl refl refl seat packet d e.1) h
+  silent (drops_full packet s) noted kept l = λ h e. settles kept.disposals RxFull l refl h
+  silent (drops_frameless packet s) noted kept l = λ h e. settles kept.disposals NoFrames l refl h
+  silent p noted kept l = λ h e. h
 
   pub law : IsLaw seat Q At Nothing Ended
-  law = record { calls = calls; entries = entries; passes = passes; ends = λ noted kept l n known h a q. tt }
+  law = record { calls = calls; entries = entries; silent = silent; ends = λ noted kept l n known h a q. tt }

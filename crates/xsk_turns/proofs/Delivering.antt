@@ -22,7 +22,7 @@ use Rattle.xsk_turns.proofs.Layouts.{layout, one_piece, length-laid_out}
 use Rattle.xsk_turns.proofs.Disposing.{IsOver, over_later, disposes_all}
 use Rattle.xsk_turns.proofs.Saying.{disposed_as_said}
 use Rattle.xsk_turns.proofs.Walks.{Fitting, meet_fitting}
-use Rattle.xsk_turns.proofs.DriverPlaces.{Family, Begins, TellRxDone, IsTried, call_at, told_rx_done, told_bounced, looked_none, looked_long, fill_items, rx_submitted, comp_submitted, looked_tx_done, found_end, point_of, reply_of, untried, drops_full, drops_frameless, parks, untried_has, AtCalls, AtEntries, AtPasses, IsLaw}
+use Rattle.xsk_turns.proofs.DriverStages.{Family, Begins, TellRxDone, IsTried, call_at, told_rx_done, told_bounced, looked_none, looked_long, fill_items, rx_submitted, comp_submitted, looked_tx_done, found_end, point_of, reply_of, untried, drops_full, drops_frameless, parks, untried_has, AtCalls, AtEntries, AtSilent, IsLaw}
 use Rattle.xsk_turns.proofs.DriverWalk.{at_call, at_end}
 
 -- ---- lists of layouts
@@ -224,19 +224,19 @@ module _ (wire : Wire) (c : Config) (d s : ℕ) (is : IsSeat c d) (input : List 
   entries e noted kept l known found h a q =
       let now = still kept l (call_at seat (point_of e) kept) (reply_of e) refl h in record { given = now.given; spare = now.spare; over = now.over }
 
-  passes : AtPasses seat (Fitting c) At
-  passes (untried packet later x) noted kept l = λ h e. skips kept packet later x l e.0 (untried_has (λ x. is_to s x ≡ false) refl refl refl refl seat packet x e.1) h
-  passes (drops_full packet t) noted kept l = λ h e. skips kept packet e.0.next.later RxFull l e.0.next.is refl h
-  passes (drops_frameless packet t) noted kept l = λ h e.
+  silent : AtSilent seat (Fitting c) At
+  silent (untried packet later x) noted kept l = λ h e. skips kept packet later x l e.0 (untried_has (λ x. is_to s x ≡ false) refl refl refl refl seat packet x e.1) h
+  silent (drops_full packet t) noted kept l = λ h e. skips kept packet e.0.next.later RxFull l e.0.next.is refl h
+  silent (drops_frameless packet t) noted kept l = λ h e.
       let now = skips kept packet e.0.next.later NoFrames l e.0.next.is refl h in record { given = now.given; spare = now.spare; over = now.over }
-  passes parks noted kept l = λ h e. record { given = h.given; spare = h.spare; over = h.over }
-  passes p noted kept l = λ h e. h
+  silent parks noted kept l = λ h e. record { given = h.given; spare = h.spare; over = h.over }
+  silent p noted kept l = λ h e. h
 
   pub law : IsLaw seat (Fitting c) At Asked Ended
   law = record {
     calls = calls;
     entries = entries;
-    passes = passes;
+    silent = silent;
     ends = λ noted kept l n known h a q. all_given kept (with_told l (Swap (Gone d) 1) (Old n)) known.2 (still kept l (Swap (Gone d) 1) (Old n) refl h);
   }
 

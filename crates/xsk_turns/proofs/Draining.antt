@@ -9,7 +9,7 @@ use Rattle.xsk_turns.proofs.Object.{classes_of, Draining, are_none, unseen_after
 use Rattle.xsk_turns.specs.Turns.{Seat, Kept, Noted, seat_of, start, turn, socket_of, application_of, cell_of}
 use Rattle.xsk_turns.specs.Law.{DrainsTx}
 use Rattle.xsk_turns.proofs.Walks.{Anything, meet_anything}
-use Rattle.xsk_turns.proofs.DriverPlaces.{Place, Turning, Again, Sending, Idling, Family, call_at, told_rx_done, told_bounced, looked_none, looked_long, looked_some, rx_submitted, comp_full, comp_submitted, tx_empty, tx_items, tx_released, looked_tx_done, armed_fill, found_end, found_none, kicked, not_kicked, point_of, reply_of, leads, none_comes, waits, drops_full, drops_frameless, visited, idles, arms, AtEntries, AtPasses, IsLaw, saw_fed, saw_closed}
+use Rattle.xsk_turns.proofs.DriverStages.{Stage, Turning, Again, Sending, Idling, Family, call_at, told_rx_done, told_bounced, looked_none, looked_long, looked_some, rx_submitted, comp_full, comp_submitted, tx_empty, tx_items, tx_released, looked_tx_done, armed_fill, found_end, found_none, kicked, not_kicked, point_of, reply_of, leads, none_comes, waits, drops_full, drops_frameless, visited, idles, arms, AtEntries, AtSilent, IsLaw, saw_fed, saw_closed}
 use Rattle.xsk_turns.proofs.DriverWalk.{at_end}
 use Rattle.xsk_model.specs.declared.call.Mark.TheVariants.{Closing}
 
@@ -29,7 +29,7 @@ record IsDrained (a t : ℕ) (tx_done : Bool) (needs : Type 0) (l : List Told) :
 abbrev Quiet : Noted → Kept → Type 0
 Quiet noted kept = (noted.progress ≡ false) × (noted.full ≡ false) × (kept.tx_done ≡ true)
 
-abbrev Needs : ℕ → Place → Noted → Kept → Type 0
+abbrev Needs : ℕ → Stage → Noted → Kept → Type 0
 Needs class (Sending Turning k due) noted kept = (class < k) × Quiet noted kept
 Needs class Idling noted kept = Quiet noted kept
 Needs class place noted kept = ⊥
@@ -167,21 +167,21 @@ module _ (seat : Seat) (class : ℕ) (below : class < seat.classes) where
   entries e noted kept l known found h x q =
       still a t kept.tx_done (Needs class (leads seat e noted kept).0 noted kept) (Needs class (leads seat e noted kept).0 noted kept) l (call_at seat (point_of e) kept) (reply_of e) (λ s. refl) (λ x. x) h
 
-  passes : AtPasses seat Anything At
-  passes none_comes noted kept l = λ h e. fewer a t kept.tx_done ⊥ _ l (λ x. absurd (omega (arith, x.0))) h
-  passes (waits packet s full) noted kept l = λ h e. fewer a t kept.tx_done ⊥ _ l (λ x. absurd (omega (arith, x.0))) h
-  passes (drops_full packet s) noted kept l = λ h e. fewer a t kept.tx_done ⊥ _ l (λ x. absurd (omega (arith, x.0))) h
-  passes (drops_frameless packet s) noted kept l = λ h e. fewer a t kept.tx_done ⊥ _ l (λ x. absurd (omega (arith, x.0))) h
-  passes visited noted kept l = λ h e. fewer a t kept.tx_done _ _ l (λ x. (below, x)) h
-  passes idles noted kept l = λ h e. fewer a t kept.tx_done _ ⊥ l (λ x. absurd x) h
-  passes arms noted kept l = λ h e. fewer a t kept.tx_done _ ⊥ l (λ x. absurd x) h
-  passes p noted kept l = λ h e. h
+  silent : AtSilent seat Anything At
+  silent none_comes noted kept l = λ h e. fewer a t kept.tx_done ⊥ _ l (λ x. absurd (omega (arith, x.0))) h
+  silent (waits packet s full) noted kept l = λ h e. fewer a t kept.tx_done ⊥ _ l (λ x. absurd (omega (arith, x.0))) h
+  silent (drops_full packet s) noted kept l = λ h e. fewer a t kept.tx_done ⊥ _ l (λ x. absurd (omega (arith, x.0))) h
+  silent (drops_frameless packet s) noted kept l = λ h e. fewer a t kept.tx_done ⊥ _ l (λ x. absurd (omega (arith, x.0))) h
+  silent visited noted kept l = λ h e. fewer a t kept.tx_done _ _ l (λ x. (below, x)) h
+  silent idles noted kept l = λ h e. fewer a t kept.tx_done _ ⊥ l (λ x. absurd x) h
+  silent arms noted kept l = λ h e. fewer a t kept.tx_done _ ⊥ l (λ x. absurd x) h
+  silent p noted kept l = λ h e. h
 
   law : IsLaw seat Anything At Asked Over
   law = record {
     calls = λ p noted kept l known h. tt;
     entries = entries;
-    passes = passes;
+    silent = silent;
     ends = λ noted kept l n known h x q. (still a t kept.tx_done (Quiet noted kept) (Quiet noted kept) l (Swap (Gone seat.pair) 1) (Old n) (λ s. refl) (λ x. x) h).empty known;
   }
 

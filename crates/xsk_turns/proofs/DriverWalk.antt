@@ -8,7 +8,7 @@ use Rattle.xsk_turns.specs.Turns.{Seat, Judged, Kept, Noted, fresh, awaits, drop
 use Rattle.xsk_model.specs.declared.call.Mark.TheVariants.{Closing, Acked}
 use Rattle.xsk_turns.specs.declared.disposal.Disposal.TheVariants.{Delivered, NoFrames, RxFull, TooLong, Missed, Bounced}
 use Rattle.xsk_turns.proofs.Walks.{Premise, Law, nothing_due, Holds, MeetAlong, at_reserve, at_submit, at_peek, at_release, at_old, by_case, by_option, says_left, says_run, meets_law}
-use Rattle.xsk_turns.proofs.DriverPlaces.{HasTaken, tried_long, untried, tried_cell, Which, Turning, Again, receives, visited, looks, Place, Starting, Receiving, Trying, Lacking, Sending, Idling, Arming, Parked, Disarming, Family, first_place, Begins, LookClosing, TellAcked, TellRxDone, TellBounced, LookCell, PeekFill, ReleaseFill, ReserveRx, SubmitRx, ReserveComp, SubmitComp, PeekTx, ReleaseTx, LookTxDone, TellGone, ArmFill, ArmTx, LookEnd, LookKick, ClearKick, DisarmFill, DisarmTx, IsBouncing, IsNext, IsTried, IsLacking, waits, saw_fed, saw_closed, told_acked, told_rx_done, told_bounced, looked_none, looked_long, looked_some, fill_empty, fill_items, fill_released, rx_granted, rx_full, rx_submitted, comp_granted, comp_full, comp_submitted, tx_empty, tx_items, tx_released, looked_tx_done, armed_fill, armed_tx, found_end, found_none, kicked, not_kicked, cleared_kick, disarmed, disarmed_fill, disarmed_tx, finds, none_comes, too_few, drops_full, drops_frameless, idles, arms, seeks, sought, misses, parks, Said, IsLaw}
+use Rattle.xsk_turns.proofs.DriverStages.{HasTaken, tried_long, untried, tried_cell, Which, Turning, Again, receives, visited, looks, Stage, Starting, Receiving, Trying, Lacking, Sending, Idling, Arming, Parked, Disarming, Family, first_place, Begins, LookClosing, TellAcked, TellRxDone, TellBounced, LookCell, PeekFill, ReleaseFill, ReserveRx, SubmitRx, ReserveComp, SubmitComp, PeekTx, ReleaseTx, LookTxDone, TellGone, ArmFill, ArmTx, LookEnd, LookKick, ClearKick, DisarmFill, DisarmTx, IsBouncing, IsNext, IsTried, IsLacking, waits, saw_fed, saw_closed, told_acked, told_rx_done, told_bounced, looked_none, looked_long, looked_some, fill_empty, fill_items, fill_released, rx_granted, rx_full, rx_submitted, comp_granted, comp_full, comp_submitted, tx_empty, tx_items, tx_released, looked_tx_done, armed_fill, armed_tx, found_end, found_none, kicked, not_kicked, cleared_kick, disarmed, disarmed_fill, disarmed_tx, finds, none_comes, too_few, drops_full, drops_frameless, idles, arms, seeks, sought, misses, parks, Said, IsLaw}
 
 module _ (seat : Seat) (Q : Premise Kept) (At : Family) (A : Said) (E : Kept → List Told → Type 0) (is : IsLaw seat Q At A E) where
   abbrev law : Law Kept
@@ -39,7 +39,7 @@ module _ (seat : Seat) (Q : Premise Kept) (At : Family) (A : Said) (E : Kept →
   go_disarm_tx : (more k : ℕ) (noted : Noted) (kept : Kept) (l : List Told) → k + more ≡ seat.classes → kept.parked ≡ None → At (Disarming false k) noted kept l
       → Along (flag_tx seat 0 more k kept (again kept)) l
   go_disarm_tx zero k noted kept l e up h =
-      let all : k ≡ seat.classes = omega arith in begins_awake kept l up (is.passes disarmed noted kept l (subst (λ j. At (Disarming false j) noted kept l) all h) up)
+      let all : k ≡ seat.classes = omega arith in begins_awake kept l up (is.silent disarmed noted kept l (subst (λ j. At (Disarming false j) noted kept l) all h) up)
   go_disarm_tx (suc more) k noted kept l e up h =
       let call = Swap (NeedTx (socket_of seat k)) 0 in
       let below : k < seat.classes = omega arith in
@@ -85,7 +85,7 @@ module _ (seat : Seat) (Q : Premise Kept) (At : Family) (A : Said) (E : Kept →
   go_settle noted kept l up h =
       let call = Look (TxDone (application_of seat)) in
       let ending : Kept = record kept { tx_done = true } in
-      by_case Q law noted.progress _ _ l (λ e. go_disarm (awaits noted) noted kept l up (is.passes finds noted kept l h e))
+      by_case Q law noted.progress _ _ l (λ e. go_disarm (awaits noted) noted kept l up (is.silent finds noted kept l h e))
       (λ e. by_case Q law kept.rx_done _ _ l
       (λ done.
       let asked = is.calls LookEnd noted kept l (e, done) h in (
@@ -96,12 +96,12 @@ module _ (seat : Seat) (Q : Premise Kept) (At : Family) (A : Said) (E : Kept →
             by_case Q law (eqb n 1) _ _ looked (λ f. go_disarm (awaits noted) noted ending looked up (is.entries (found_end n) noted kept l (e, done) f h asked q))
             (λ f. is.entries (found_none n) noted kept l (e, done) f h asked q)),
       ))
-      (λ f. is.passes parks noted kept l h (e, f)))
+      (λ f. is.silent parks noted kept l h (e, f)))
 
   -- ---- a Peek
 
   -- wherever it goes on behind a Peek of FILL, and of the TX ring of a class
-  abbrev Follows : Place → (Noted → Kept → Script Kept) → Noted → Kept → List Told → Type 0
+  abbrev Follows : Stage → (Noted → Kept → Script Kept) → Noted → Kept → List Told → Type 0
   Follows place next noted kept l = At place noted kept l → Along (next noted kept) l
 
   module _ (look : Which) (noted : Noted) (kept : Kept) (l : List Told) (next : Noted → Kept → Script Kept) where
@@ -171,12 +171,12 @@ module _ (seat : Seat) (Q : Premise Kept) (At : Family) (A : Said) (E : Kept →
       let packet = lacking.packet in
       let s = lacking.socket in
       subst (λ n. Along (peek_fill seat n noted kept (look_from seat 0)) l) (sym lacking.is)
-      (go_peek_fill Again noted kept l (look_from seat 0) packet s lacking.tried lacking.few (is.passes (seeks packet s) noted kept l h (lacking.tried, e))
+      (go_peek_fill Again noted kept l (look_from seat 0) packet s lacking.tried lacking.few (is.silent (seeks packet s) noted kept l h (lacking.tried, e))
       (λ items m h.
       let taken = with_told m (Release (Fill seat.pair) (length items)) Released in
-      go_look_from (moved noted) (supplied seat kept items) taken st.0 (is.passes (sought packet s) (moved noted) (supplied seat kept items) taken h (e, refl)))
-      (λ m h. go_look_from noted (with_fill_empty kept) m st.0 (is.passes (misses packet s) noted (with_fill_empty kept) m h e))))
-      (λ e. go_look_from noted kept l st.0 (is.passes looks noted kept l h e))
+      go_look_from (moved noted) (supplied seat kept items) taken st.0 (is.silent (sought packet s) (moved noted) (supplied seat kept items) taken h (e, refl)))
+      (λ m h. go_look_from noted (with_fill_empty kept) m st.0 (is.silent (misses packet s) noted (with_fill_empty kept) m h e))))
+      (λ e. go_look_from noted kept l st.0 (is.silent looks noted kept l h e))
 
   go_arm_tx : (more k : ℕ) (noted : Noted) (kept : Kept) (l : List Told) → k + more ≡ seat.classes → Steady noted kept → At (Arming k) noted kept l
       → Along (flag_tx seat 1 more k kept (look_again seat noted kept)) l
@@ -202,13 +202,13 @@ module _ (seat : Seat) (Q : Premise Kept) (At : Family) (A : Said) (E : Kept →
         asked,
         at_old Q law kept call l (λ _. flag_from seat 1 0 kept (look_again seat noted kept)) (λ n q. all (with_told l call (Old n)) (is.entries (armed_fill n) noted kept l (full, e, sends, none, on) tt h asked q)),
       ))
-      (λ e. all l (is.passes arms noted kept l h (full, e, sends, none, on)))
+      (λ e. all l (is.silent arms noted kept l h (full, e, sends, none, on)))
 
   go_idle : (noted : Noted) (kept : Kept) (l : List Told) → Steady noted kept → At Idling noted kept l → Along (idle seat noted kept) l
   go_idle noted kept l st h =
       let look = Look (TxDone (application_of seat)) in
       let leave = Swap (Gone seat.pair) 1 in
-      by_case Q law (noted.progress || noted.full) _ _ l (λ e. begins_awake kept l st.0 (is.passes idles noted kept l h (inl e)))
+      by_case Q law (noted.progress || noted.full) _ _ l (λ e. begins_awake kept l st.0 (is.silent idles noted kept l h (inl e)))
       (λ e.
       let off = or_parts noted.progress noted.full e in
       by_case Q law kept.tx_done _ _ l
@@ -223,7 +223,7 @@ module _ (seat : Seat) (Q : Premise Kept) (At : Family) (A : Said) (E : Kept →
         gives,
         at_old Q law kept look l (λ n. again (looked n)) (λ n q. begins_awake (looked n) (with_told l look (Old n)) st.0 (is.entries (looked_tx_done n) noted kept l (done, f) tt h gives q)),
       ))
-      (λ g. begins_awake kept l st.0 (is.passes idles noted kept l h (inr (f, w, g)))))))
+      (λ g. begins_awake kept l st.0 (is.silent idles noted kept l h (inr (f, w, g)))))))
 
   -- wherever a class's packets are all completed
   abbrev Visiting : (Noted → Kept → Script Kept) → ℕ → Type 0
@@ -254,7 +254,7 @@ module _ (seat : Seat) (Q : Premise Kept) (At : Family) (A : Said) (E : Kept →
       → Along (visit seat more k noted kept) l
   go_visit zero k noted kept l e st h none =
       let all : k ≡ seat.classes = omega arith in
-      go_idle noted kept l st (is.passes visited noted kept l (subst (λ j. At (Sending Turning j nothing_due) noted kept l) all h) none)
+      go_idle noted kept l st (is.silent visited noted kept l (subst (λ j. At (Sending Turning j nothing_due) noted kept l) all h) none)
   go_visit (suc more) k noted kept l e st h none =
       let on : (k + 1) + more ≡ seat.classes = omega arith in
       let next = visit seat more (k + 1) in
@@ -273,14 +273,14 @@ module _ (seat : Seat) (Q : Premise Kept) (At : Family) (A : Said) (E : Kept →
     go_no_frames : (noted : Noted) (kept : Kept) (l : List Told) → Awake noted kept → At (Lacking Turning packet s false) noted kept l → IsTried seat Q kept.coming packet s
         → nat_le (pieces_of seat packet.bytes) (length kept.spare) ≡ false → Along (no_frames seat packet.bytes noted kept) l
     go_no_frames noted kept l up h tried few =
-        by_case Q law (drops seat.wire) _ _ l (λ e. go_transmit (moved noted) (dropped kept NoFrames) l (steady (moved noted) (dropped kept NoFrames) up) (is.passes (drops_frameless packet s) noted kept l h (tried, e, few)))
+        by_case Q law (drops seat.wire) _ _ l (λ e. go_transmit (moved noted) (dropped kept NoFrames) l (steady (moved noted) (dropped kept NoFrames) up) (is.silent (drops_frameless packet s) noted kept l h (tried, e, few)))
         (λ e. go_transmit (lacks (pieces_of seat packet.bytes - length kept.spare) noted) kept l
-        (up.0, λ f. record { packet = packet; socket = s; tried = tried; few = few; is = refl }) (is.passes (waits packet s false) noted kept l h (tried, e)))
+        (up.0, λ f. record { packet = packet; socket = s; tried = tried; few = few; is = refl }) (is.silent (waits packet s false) noted kept l h (tried, e)))
 
     go_no_room : (noted : Noted) (kept : Kept) (l : List Told) → Awake noted kept → At (Lacking Turning packet s true) noted kept l → IsTried seat Q kept.coming packet s → Along (no_room seat noted kept) l
     go_no_room noted kept l up h tried =
-        by_case Q law (drops seat.wire) _ _ l (λ e. go_transmit (moved noted) (settled kept RxFull) l (steady (moved noted) (settled kept RxFull) up) (is.passes (drops_full packet s) noted kept l h (tried, e)))
-        (λ e. go_transmit (stopped noted) kept l (steady (stopped noted) kept up) (is.passes (waits packet s true) noted kept l h (tried, e)))
+        by_case Q law (drops seat.wire) _ _ l (λ e. go_transmit (moved noted) (settled kept RxFull) l (steady (moved noted) (settled kept RxFull) up) (is.silent (drops_full packet s) noted kept l h (tried, e)))
+        (λ e. go_transmit (stopped noted) kept l (steady (stopped noted) kept up) (is.silent (waits packet s true) noted kept l h (tried, e)))
 
     go_reserve : (noted : Noted) (kept : Kept) (l : List Told) → Awake noted kept → At (Trying Turning packet s nothing_due) noted kept l → IsTried seat Q kept.coming packet s
         → nat_le (pieces_of seat packet.bytes) (length kept.spare) ≡ true → Along (reserve seat packet.bytes s noted kept) l
@@ -307,7 +307,7 @@ module _ (seat : Seat) (Q : Premise Kept) (At : Family) (A : Said) (E : Kept →
 
     go_more : (noted : Noted) (kept : Kept) (l : List Told) → noted.progress ≡ true → HasTaken seat l → Awake noted kept → At (Trying Turning packet s nothing_due) noted kept l → IsTried seat Q kept.coming packet s → Along (go_on seat packet.bytes s noted kept) l
     go_more noted kept l on taken up h tried =
-        by_case Q law (nat_le (pieces_of seat packet.bytes) (length kept.spare)) _ _ l (go_reserve noted kept l up h tried) (λ e. go_no_frames noted kept l up (is.passes (too_few packet s) noted kept l h (tried, on, e, taken)) tried e)
+        by_case Q law (nat_le (pieces_of seat packet.bytes) (length kept.spare)) _ _ l (go_reserve noted kept l up h tried) (λ e. go_no_frames noted kept l up (is.silent (too_few packet s) noted kept l h (tried, on, e, taken)) tried e)
 
     go_find : (noted : Noted) (kept : Kept) (l : List Told) → Awake noted kept → At (Trying Turning packet s nothing_due) noted kept l → IsTried seat Q kept.coming packet s → Along (find_spare seat packet.bytes s noted kept) l
     go_find noted kept l up h tried =
@@ -332,7 +332,7 @@ module _ (seat : Seat) (Q : Premise Kept) (At : Family) (A : Said) (E : Kept →
   go_receive [] noted kept l up h e =
       let call = Swap (RxDone seat.pair) 1 in
       let left : Kept = record kept { rx_done = true } in
-      by_case Q law kept.rx_done _ _ l (λ f. go_transmit noted kept l (steady noted kept up) (is.passes none_comes noted kept l h (e, f)))
+      by_case Q law kept.rx_done _ _ l (λ f. go_transmit noted kept l (steady noted kept up) (is.silent none_comes noted kept l h (e, f)))
       (λ f.
       let gives = is.calls TellRxDone noted kept l (e, f) h in (
         gives,
@@ -360,17 +360,17 @@ module _ (seat : Seat) (Q : Premise Kept) (At : Family) (A : Said) (E : Kept →
             (λ long. go_transmit (moved noted) (dropped kept TooLong) told (steady (moved noted) (dropped kept TooLong) up) (is.entries (looked_long packet n s) noted kept l next (some, long) h gives q))
             (λ fits. go_find packet s noted kept told up (is.entries (looked_some packet n s) noted kept l next (some, fits) h gives q) (record { next = next; number = n; looked = (kept, l, q); target = some; fits = fits })))),
       )))
-      (λ d some. go_receive later (moved noted) (settled kept d) l up (is.passes (untried packet later d) noted kept l h (e, some)) rest)
+      (λ d some. go_receive later (moved noted) (settled kept d) l up (is.silent (untried packet later d) noted kept l h (e, some)) rest)
 
   -- ---- a socket that is closed
 
   go_closing : (o : Option ℕ) (kept : Kept) (l : List Told) → closing_of seat ≡ o → kept.parked ≡ None → At Starting fresh kept l → Along (look_closing seat o kept) l
-  go_closing None kept l e up h = go_receive kept.coming fresh kept l (up, refl) (is.passes receives fresh kept l h (inl e)) refl
+  go_closing None kept l e up h = go_receive kept.coming fresh kept l (up, refl) (is.silent receives fresh kept l h (inl e)) refl
   go_closing (Some s) kept l e up h =
       let look = Look (Closing s) in
       let give = Swap (Acked s) 1 in
       let now = with_acked kept in
-      by_case Q law kept.acked _ _ l (λ f. go_receive kept.coming fresh kept l (up, refl) (is.passes receives fresh kept l h (inr f)) refl)
+      by_case Q law kept.acked _ _ l (λ f. go_receive kept.coming fresh kept l (up, refl) (is.silent receives fresh kept l h (inr f)) refl)
       (λ f.
       let asked = is.calls (LookClosing s) fresh kept l (e, f) h in (
         asked,

@@ -10,7 +10,7 @@ use Rattle.xsk_turns.specs.declared.wire.Wire.{Wire}
 use Rattle.xsk_turns.proofs.Places.{batch_few}
 use Rattle.xsk_turns.proofs.Counting.{four_classes}
 use Rattle.xsk_turns.proofs.Walks.{Fitting, meet_fitting}
-use Rattle.xsk_turns.proofs.DriverPlaces.{Family, Idling, Arming, Which, Turning, Again, Trying, Lacking, Sending, PeekFill, ReleaseFill, PeekTx, ReleaseTx, comp_full, comp_submitted, tx_empty, tx_items, looked_tx_done, armed_fill, found_end, found_none, visited, idles, arms, seeks, looks, finds, parks, Said, AtCalls, AtEntries, AtPasses, IsLaw, SubmitComp, LookTxDone, TellGone, ArmFill, ArmTx, LookEnd}
+use Rattle.xsk_turns.proofs.DriverStages.{Family, Idling, Arming, Which, Turning, Again, Trying, Lacking, Sending, PeekFill, ReleaseFill, PeekTx, ReleaseTx, comp_full, comp_submitted, tx_empty, tx_items, looked_tx_done, armed_fill, found_end, found_none, visited, idles, arms, seeks, looks, finds, parks, Said, AtCalls, AtEntries, AtSilent, IsLaw, SubmitComp, LookTxDone, TellGone, ArmFill, ArmTx, LookEnd}
 use Rattle.xsk_turns.proofs.DriverWalk.{at_call}
 
 -- each item ends one packet at most
@@ -101,18 +101,18 @@ module _ (wire : Wire) (c : Config) (pair : ℕ) (is : IsSeat c pair) where
   entries (found_none n) noted kept l known found h a q = few_in Again (classes_of c) kept h
   entries e noted kept l known found h a q = h
 
-  passes : AtPasses seat (Fitting c) At
-  passes visited noted kept l = λ h none. ((λ e. none), h)
-  passes idles noted kept l = λ h e. h.1
-  passes arms noted kept l = λ h e. h.0 e.0
-  passes (seeks packet s) noted kept l = λ h e. first_look kept h
-  passes looks noted kept l = λ h e. first_look kept h
-  passes finds noted kept l = λ h e. few_in Again (classes_of c) kept h
-  passes parks noted kept l = λ h e. few_in Again (classes_of c) kept h
-  passes p noted kept l = λ h e. h
+  silent : AtSilent seat (Fitting c) At
+  silent visited noted kept l = λ h none. ((λ e. none), h)
+  silent idles noted kept l = λ h e. h.1
+  silent arms noted kept l = λ h e. h.0 e.0
+  silent (seeks packet s) noted kept l = λ h e. first_look kept h
+  silent looks noted kept l = λ h e. first_look kept h
+  silent finds noted kept l = λ h e. few_in Again (classes_of c) kept h
+  silent parks noted kept l = λ h e. few_in Again (classes_of c) kept h
+  silent p noted kept l = λ h e. h
 
   law : IsLaw seat (Fitting c) At Asked Ended
-  law = record { calls = calls; entries = entries; passes = passes; ends = λ noted kept l n known h a q. tt }
+  law = record { calls = calls; entries = entries; silent = silent; ends = λ noted kept l n known h a q. tt }
 
 pub finished_few : FinishedFew
 finished_few wire c pair input l kept call rest is fit asks =

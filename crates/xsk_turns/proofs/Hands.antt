@@ -36,15 +36,15 @@ module _ (c : Config) (a : ℕ) (one : IsApp c a) (l : List Told) (fit : AllFit 
       subst (lanes.AtEnd plain c a is.run.0) (sym is.cut)
       (says_in_run c a one (lanes.At plain c a one) (lanes.Asked plain c a one) (lanes.Ended plain c a one) (lanes_law c a one is.closes) (lanes_jumps c a one is.closes) is.closes is.kept is.steps is.later (ended is.run.0) before parts.1 is.run.1)
 
-split_passes : (m : Manner) (c : Config) (a : ℕ) (l : List Told) (lane : ℕ) → IsApp c a → AllFit c [] l → m.mangle ≡ None → IsWholeSplitRun c a l → lane < lanes_of c
+split_silent : (m : Manner) (c : Config) (a : ℕ) (l : List Told) (lane : ℕ) → IsApp c a → AllFit c [] l → m.mangle ≡ None → IsWholeSplitRun c a l → lane < lanes_of c
     → AreAltered c.geometry m.mangle (peeked_of (Rx (rx_of c a lane)) l) (submitted_of (Tx (tx_of c a lane)) l)
-split_passes m c a l lane one fit same run h =
+split_silent m c a l lane one fit same run h =
     subst (λ (x : Option ℕ). AreAltered c.geometry x (peeked_of (Rx (rx_of c a lane)) l) (submitted_of (Tx (tx_of c a lane)) l)) (sym same) ((split_at_end c a one l fit run).all lane h (none_drains c a lane run.run.0 run.closes))
 
 pub hands_pass_on : HandsPassOn
-hands_pass_on zero m c a l lane one fit run h stays = split_passes m c a l lane one fit run.0 run.1 h
+hands_pass_on zero m c a l lane one fit run h stays = split_silent m c a l lane one fit run.0 run.1 h
 hands_pass_on (suc zero) m c a l lane one fit run h stays = lanes_altered m c a l lane one run h stays
-hands_pass_on (suc (suc hands)) m c a l lane one fit run h stays = split_passes m c a l lane one fit run.0 run.1 h
+hands_pass_on (suc (suc hands)) m c a l lane one fit run h stays = split_silent m c a l lane one fit run.0 run.1 h
 
 pub hands_drain_rx : HandsDrainRx
 hands_drain_rx zero m c a l lane one fit run h = (split_at_end c a one l fit run.1).drained lane h
@@ -62,7 +62,7 @@ module _ (c : Config) (a : ℕ) (one : IsApp c a) where
   kicks_law : IsLaw c a (Fitting c) (waking.Sets c a) (waking.SetsSaid c a) (waking.SetsAtEnd c a)
   kicks_law =
       let on = waking.sets c a in
-      record { calls = on.calls; entries = λ e noted kept l known h asked q. on.entries e noted kept l known h asked tt; passes = on.passes; ends = on.ends }
+      record { calls = on.calls; entries = λ e noted kept l known h asked q. on.entries e noted kept l known h asked tt; silent = on.silent; ends = on.ends }
 
   kicks_jumps : Jumps (waking.Sets c a)
   kicks_jumps = record {
@@ -135,7 +135,7 @@ module _ (c : Config) (a : ℕ) (one : IsApp c a) (closes : c.closing ≡ None) 
   end_law : (side : ℕ) (below : side < 2) → IsLaw c a (Fitting c) (paying.AtTold c a one wakeup side below) (paying.AskedTold c a one wakeup side below) (λ kept l. Unit {0})
   end_law side below =
       let on = paying.told_law c a one wakeup side below in
-      record { calls = on.calls; entries = λ e noted kept l known h asked q. on.entries e noted kept l known h asked tt; passes = on.passes; ends = on.ends }
+      record { calls = on.calls; entries = λ e noted kept l known h asked q. on.entries e noted kept l known h asked tt; silent = on.silent; ends = on.ends }
 
   end_jumps : (side : ℕ) (below : side < 2) → Jumps (paying.AtTold c a one wakeup side below)
   end_jumps side below = record {

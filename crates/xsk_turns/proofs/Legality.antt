@@ -4,7 +4,7 @@ use Rattle.std.specs.Int.{div_ceil}
 use Rattle.std.proofs.lemmas.Bool.{cases_eq}
 use Rattle.std.proofs.lemmas.List.{length-map, length-drop, nil_from_length}
 use Rattle.std.proofs.lemmas.List.Elements.{All-nil, All-cons, All-head, All-tail, All-take, All-drop, All-weaker}
-use Rattle.xsk_turns.proofs.Object.{payload_of, Frame, Config, classes_of, times, numbers, IsLayout, IsWhole, room_of, is_from_fill, completed_by, waiting, sending_of, IsFed, IsLegal, AreReceived, sockets_of}
+use Rattle.xsk_turns.proofs.Object.{payload_of, Frame, Config, classes_of, times, numbers, IsLayout, IsWhole, room_of, is_from_fill, completed_by, waiting, tx_work_of, IsFed, IsLegal, AreReceived, sockets_of}
 use Rattle.xsk_turns.proofs.Calls.{Item, Told, Comp, Rx, Submit}
 use Rattle.xsk_model.proofs.Completions.{waiting_whole, one_completion}
 use Rattle.xsk_model.proofs.Counting.{times-append}
@@ -61,11 +61,11 @@ module _ (c : Config) (pair : ℕ) (kept : Kept) (l : List Told) (h : HasKept c 
   abbrev pub behind_first : List (List Item)
   behind_first = of_class first_class (drop 1 h.origins) (drop 1 kept.finished)
 
-  pub first_waits : get_or kept.finished 0 [] ∷ behind_first ≡ waiting c (sending_of c (socket_at_class c pair first_class) l)
+  pub first_waits : get_or kept.finished 0 [] ∷ behind_first ≡ waiting c (tx_work_of c (socket_at_class c pair first_class) l)
   first_waits = sym (of_class-first h.origins kept.finished h.each some) ∙ h.waits first_class first_known
 
   pub first_whole : IsWhole c.geometry c.sg (get_or kept.finished 0 [])
-  first_whole = waiting_whole c (sending_of c (socket_at_class c pair first_class) l) (get_or kept.finished 0 []) behind_first (sym first_waits)
+  first_whole = waiting_whole c (tx_work_of c (socket_at_class c pair first_class) l) (get_or kept.finished 0 []) behind_first (sym first_waits)
 
 -- ---- a packet on RX
 
@@ -209,19 +209,19 @@ module _ (c : Config) (pair : ℕ) (seat : IsSeat c pair) (kept : Kept) (l : Lis
 
   -- the first packet is completed on the ring of its class, and none on another
   first_done : IsLegal c l pair (Submit (Comp pair) (map returned (get_or kept.finished 0 []))) → (class : ℕ) → class < classes_of c
-      → (completed_by (map returned (get_or kept.finished 0 [])) (waiting c (sending_of c (socket_at_class c pair class) l)) ++ []) ++ of_class class (drop 1 h.origins) (drop 1 kept.finished)
-      ≡ waiting c (sending_of c (socket_at_class c pair class) l)
+      → (completed_by (map returned (get_or kept.finished 0 [])) (waiting c (tx_work_of c (socket_at_class c pair class) l)) ++ []) ++ of_class class (drop 1 h.origins) (drop 1 kept.finished)
+      ≡ waiting c (tx_work_of c (socket_at_class c pair class) l)
   first_done legal class within =
       let packet = get_or kept.finished 0 [] in
       let items = map returned packet in
       let first = first_class c pair kept l h some in
       let later = of_class class (drop 1 h.origins) (drop 1 kept.finished) in
-      let f = λ (t : ℕ). completed_by items (waiting c (sending_of c t l)) in
+      let f = λ (t : ℕ). completed_by items (waiting c (tx_work_of c t l)) in
       let s = socket_at_class c pair first in
-      let here : f s ≡ packet ∷ [] = completes packet (behind_first c pair kept l h some) (waiting c (sending_of c s l)) (first_waits c pair kept l h some) in
+      let here : f s ≡ packet ∷ [] = completes packet (behind_first c pair kept l h some) (waiting c (tx_work_of c s l)) (first_waits c pair kept l h some) in
       ⊎_elim
       (λ (same : class ≡ first).
-      subst (λ (j : ℕ). (f (socket_at_class c pair j) ++ []) ++ of_class j (drop 1 h.origins) (drop 1 kept.finished) ≡ waiting c (sending_of c (socket_at_class c pair j) l)) (sym same)
+      subst (λ (j : ℕ). (f (socket_at_class c pair j) ++ []) ++ of_class j (drop 1 h.origins) (drop 1 kept.finished) ≡ waiting c (tx_work_of c (socket_at_class c pair j) l)) (sym same)
       (ap (λ (xs : List (List Item)). (xs ++ []) ++ behind_first c pair kept l h some) here ∙ first_waits c pair kept l h some))
       (λ (other : class ≡ first → ⊥).
       let t = socket_at_class c pair class in

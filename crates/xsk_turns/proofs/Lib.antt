@@ -20,7 +20,7 @@ pub mod Counting
 pub mod Counts
 pub mod Disposing
 pub mod Appending
-pub mod DriverPlaces
+pub mod DriverStages
 pub mod DriverWalk
 pub mod Layouts
 pub mod Mangling

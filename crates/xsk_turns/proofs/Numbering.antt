@@ -11,7 +11,7 @@ use Rattle.xsk_turns.specs.declared.manner.Change.{Change}
 use Rattle.xsk_turns.specs.declared.manner.Change.TheVariants.{GoesOn}
 use Rattle.xsk_turns.proofs.Mangling.{length-given}
 use Rattle.xsk_turns.proofs.Walks.{Anything, meet_anything}
-use Rattle.xsk_turns.proofs.AppWalk.{Family, SubmitTx, call_at, kept_before, tx_submitted, looked_rx_done, looked_gone, point_of, reply_of, no_lanes, begins, Said, AtCalls, AtEntries, AtPasses, IsLaw, at_call}
+use Rattle.xsk_turns.proofs.AppWalk.{Family, SubmitTx, call_at, kept_before, tx_submitted, looked_rx_done, looked_gone, point_of, reply_of, no_lanes, begins, Said, AtCalls, AtEntries, AtSilent, IsLaw, at_call}
 
 -- ---- the changes come round
 
@@ -103,13 +103,13 @@ module _ (c : Config) (a every : ℕ) where
   entries (looked_gone side n) noted kept l known h asked q = flagged (eqb n 1) (record kept { gone = set kept.gone side true }) kept _ refl refl (still kept kept l _ _ refl refl refl h)
   entries e noted kept l known h asked q = still (kept_before (point_of e) kept) _ l (call_at c a (point_of e) kept) (reply_of e) refl refl refl h
 
-  passes : AtPasses c a At
-  passes no_lanes noted kept l = λ h e. h
-  passes begins noted kept l = λ h e. h
-  passes p noted kept l = λ h e. h
+  silent : AtSilent c a At
+  silent no_lanes noted kept l = λ h e. h
+  silent begins noted kept l = λ h e. h
+  silent p noted kept l = λ h e. h
 
   law : IsLaw c a Anything At Asked (λ kept l. Unit {0})
-  law = record { calls = calls; entries = entries; passes = passes; ends = λ noted kept l done h. tt }
+  law = record { calls = calls; entries = entries; silent = silent; ends = λ noted kept l done h. tt }
 
 pub changes_by_number : ChangesByNumber
 changes_by_number m every c a l kept call rest is one asks =

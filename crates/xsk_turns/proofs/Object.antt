@@ -12,7 +12,7 @@ pub use Rattle.xsk_model.specs.Numbers.{times, numbers, number_of, without}
 pub use Rattle.xsk_model.specs.Descriptor.{is_valid, is_inside, has_bytes, fits_chunk, has_known_options, body_of, payload}
 pub use Rattle.xsk_model.specs.Packets.{IsLayout, IsWhole, packets, whole_packets, rest, packets_from, bad_items, bytes_of, Packet, whole, bad, items_of, rest_from, IsCut, options_before, HoldsPiece, HoldPieces, ended_by, group_after}
 pub use Rattle.xsk_model.specs.Object.{submitted, taken}
-pub use Rattle.xsk_model.specs.Own.{room_of, is_from_fill, completed_by, waiting, sending_of, had_of, is_on, peeked_of, peeked_step, submitted_of, submitted_step, Sending, is_fill_peek, fill_step, sending_after, is_same, held_of, room_step, held_step}
+pub use Rattle.xsk_model.specs.Own.{room_of, is_from_fill, completed_by, waiting, tx_work_of, had_of, is_on, peeked_of, peeked_step, submitted_of, submitted_step, TxWork, is_fill_peek, fill_step, tx_work_after, is_same, held_of, room_step, held_step}
 pub use Rattle.xsk_model.specs.Opening.{home_item}
 pub use Rattle.xsk_model.specs.Legal.{IsLegal, IsItemOn, AreReceived, AreCompleted}
 pub use Rattle.xsk_model.specs.History.{OwnGoesOn, Fits, AreFresh}

@@ -5,7 +5,7 @@ use Rattle.std.proofs.lemmas.List.{drop-append-le, length-replicate, map-append}
 use Rattle.std.proofs.lemmas.List.Concat.{flat_map-append}
 use Rattle.std.proofs.lemmas.List.Elements.{All-nil, All-cons, All-append, All-weaker}
 use Rattle.std.proofs.lemmas.List.Sums.{fold_push}
-use Rattle.xsk_turns.proofs.Object.{Geometry, Frame, Config, classes_of, is_ring, times, number_of, numbers, Packet, whole, bad, items_of, packets, packets_from, rest, rest_from, whole_packets, submitted, taken, Sending, had_of, is_on, is_fill_peek, fill_step, is_from_fill, peeked_step, peeked_of, completed_by, waiting, sending_after, sending_of, IsLegal, Fits, AreFresh, OwnGoesOn, completed_in, submitted_of, submitted_step}
+use Rattle.xsk_turns.proofs.Object.{Geometry, Frame, Config, classes_of, is_ring, times, number_of, numbers, Packet, whole, bad, items_of, packets, packets_from, rest, rest_from, whole_packets, submitted, taken, TxWork, had_of, is_on, is_fill_peek, fill_step, is_from_fill, peeked_step, peeked_of, completed_by, waiting, tx_work_after, tx_work_of, IsLegal, Fits, AreFresh, OwnGoesOn, completed_in, submitted_of, submitted_step}
 use Rattle.xsk_turns.proofs.Calls.{Item, Told, with_told, Ring, Fill, Comp, Tx, Call, Submit, Peek, Reply, Items}
 use Rattle.xsk_model.proofs.Counting.{times-append, times-flat_map-set}
 use Rattle.xsk_model.proofs.Completions.{own_kept, times-numbers-append}
@@ -13,7 +13,7 @@ use Rattle.xsk_model.proofs.Folds.{part_of-push, part_of-push_same, part_of-push
 use Rattle.xsk_model.proofs.PacketsLaws.{packets_from-append, rest_from-append, packets-items}
 use Rattle.xsk_model.proofs.Places.{is_ring-self}
 use Rattle.xsk_turns.proofs.LegalCalls.{had_told}
-use Rattle.xsk_model.proofs.Sendings.{wholes, more_wholes, wholes-append, sending_of-push, peeked_is}
+use Rattle.xsk_model.proofs.Sendings.{wholes, more_wholes, wholes-append, tx_work_of-push, peeked_is}
 use Rattle.xsk_turns.specs.Turns.{Kept, frame_in, frames_in, bad_ones, group_at, gathered, seat_of}
 use Rattle.xsk_turns.specs.Owned.{IsSeat, of_class, socket_at_class, frame_numbers, numbers_kept, IsSpare, Owned}
 use Rattle.xsk_turns.specs.declared.wire.Wire.{Wire}
@@ -31,7 +31,7 @@ pub record Has (c : Config) (pair : ℕ) (spare : List Frame) (groups finished :
   pub origins : List ℕ
   pub each : length origins ≡ length finished
   pub known : All (λ (class : ℕ). class < classes_of c) origins
-  pub waits : (class : ℕ) → class < classes_of c → of_class class origins finished ≡ waiting c (sending_of c (socket_at_class c pair class) l)
+  pub waits : (class : ℕ) → class < classes_of c → of_class class origins finished ≡ waiting c (tx_work_of c (socket_at_class c pair class) l)
 
 abbrev pub HasKept : Config → ℕ → Kept → List Told → Type 0
 HasKept c pair kept l = Has c pair kept.spare kept.groups kept.finished kept.lost l
@@ -130,20 +130,20 @@ from_fill-none : (n : ℕ) (l : List Told) (call : Call) (reply : Reply) → tim
 from_fill-none n l call reply none =
     from_fill-push n l call reply ∙ ap (λ (m : ℕ). cond (nat_lt 0 m) (is_fill_peek call) (is_from_fill n l)) none
 
-cond_waits : (b : Bool) (c : Config) (u : Sending) (items : List Item) → items ≡ [] → waiting c (cond b (record u { peeked = u.peeked ++ items }) u) ≡ waiting c u
+cond_waits : (b : Bool) (c : Config) (u : TxWork) (items : List Item) → items ≡ [] → waiting c (cond b (record u { peeked = u.peeked ++ items }) u) ≡ waiting c u
 cond_waits true c u items none = ap (λ (xs : List Item). drop u.completed (whole_packets (packets c.geometry c.sg xs))) (ap (λ (ys : List Item). u.peeked ++ ys) none ∙ append-nil u.peeked)
 cond_waits false c u items none = refl
 
 waits_after : (c : Config) (s : ℕ) (l : List Told) (call : Call) (reply : Reply) (ws : List (List Item)) → taken reply ≡ []
-    → completed_in c (s ∷ []) l call ++ ws ≡ waiting c (sending_of c s l) → ws ≡ waiting c (sending_after c s (sending_of c s l) call reply)
+    → completed_in c (s ∷ []) l call ++ ws ≡ waiting c (tx_work_of c s l) → ws ≡ waiting c (tx_work_after c s (tx_work_of c s l) call reply)
 waits_after c s l (Submit (Comp d) items) reply ws none h =
-    let u = sending_of c s l in
+    let u = tx_work_of c s l in
     let done = completed_by items (waiting c u) in
     let front : (done ++ []) ++ ws ≡ done ++ ws = ap (λ (xs : List (List Item)). xs ++ ws) (append-nil done) in
     sym (drop_at done ws (length done) refl)
     ∙ ap (λ (xs : List (List Item)). drop (length done) xs) (sym front ∙ h)
     ∙ drop-drop (length done) u.completed (wholes c u)
-waits_after c s l (Peek r n) reply ws none h = h ∙ sym (cond_waits (is_ring (Tx s) r) c (sending_of c s l) (taken reply) none)
+waits_after c s l (Peek r n) reply ws none h = h ∙ sym (cond_waits (is_ring (Tx s) r) c (tx_work_of c s l) (taken reply) none)
 waits_after c s l call reply ws none h = h
 
 -- an entry that brings no frame
@@ -168,7 +168,7 @@ has_told c pair kept call reply l h legal fits none = record {
   waits = λ class within.
       let s = socket_at_class c pair class in
       waits_after c s l call reply (of_class class h.queue.origins kept.finished) none (h.queue.waits class within)
-      ∙ ap (λ (u : Sending). waiting c u) (sym (sending_of-push c s l (record { call = call; reply = reply })));
+      ∙ ap (λ (u : TxWork). waiting c u) (sym (tx_work_of-push c s l (record { call = call; reply = reply })));
 }
 
 -- ---- the items of a Peek on FILL
@@ -232,7 +232,7 @@ has_fill c pair k kept items l h legal fits some news =
       known = h.queue.known;
       waits = λ class within.
           let s = socket_at_class c pair class in
-          h.queue.waits class within ∙ ap (λ (u : Sending). waiting c u) (sym (sending_of-push c s l t));
+          h.queue.waits class within ∙ ap (λ (u : TxWork). waiting c u) (sym (tx_work_of-push c s l t));
     }
 
 -- ---- the items of a Peek on TX
@@ -276,7 +276,7 @@ further_items n g sg peeked items =
 pub sockets_apart : (c : Config) (pair i j : ℕ) → (i ≡ j → ⊥) → socket_at_class c pair i ≡ socket_at_class c pair j → ⊥
 sockets_apart c pair i j apart e = apart (omega (arith, e))
 
-waits_peeked : (c : Config) (u : Sending) (items : List Item) → u.completed ≤ length (wholes c u)
+waits_peeked : (c : Config) (u : TxWork) (items : List Item) → u.completed ≤ length (wholes c u)
     → waiting c (record u { peeked = u.peeked ++ items }) ≡ waiting c u ++ more_wholes c u.peeked items
 waits_peeked c u items within =
     ap (λ (ws : List (List Item)). drop u.completed ws) (wholes-append c u.peeked items)
@@ -332,16 +332,16 @@ has_tx wire c pair class k kept items l seat within h legal fresh =
     let inside : class < length kept.groups = omega (arith, within, h.classes) in
     let more = whole_packets ps in
     let origins = h.queue.origins ++ replicate (length more) class in
-    let u = sending_of c s l in
+    let u = tx_work_of c s l in
     let news : more ≡ more_wholes c u.peeked items = ap (λ (xs : List Item). whole_packets (packets_from g sg xs items)) (is ∙ ap (λ (xs : List Item). rest g sg xs) (sym (peeked_is c pair s l h.own))) in
-    let here : of_class class origins (kept.finished ++ more) ≡ waiting c (sending_of c s m) =
+    let here : of_class class origins (kept.finished ++ more) ≡ waiting c (tx_work_of c s m) =
     of_class-append class h.queue.origins (replicate (length more) class) kept.finished more h.queue.each
     ∙ ap (λ (ws : List (List Item)). of_class class h.queue.origins kept.finished ++ ws) (of_class-same class more)
     ∙ ap (λ (ws : List (List Item)). ws ++ more) (h.queue.waits class within)
     ∙ ap (λ (ws : List (List Item)). waiting c u ++ ws) news
     ∙ sym (waits_peeked c u items ((own_kept c pair seat.known l h.own).within s))
     ∙ ap (λ (b : Bool). waiting c (cond b (record u { peeked = u.peeked ++ items }) u)) (sym (is_ring-self (Tx s)))
-    ∙ ap (λ (v : Sending). waiting c v) (sym (sending_of-push c s l t)) in
+    ∙ ap (λ (v : TxWork). waiting c v) (sym (tx_work_of-push c s l t)) in
     record {
       own = own_push c pair [] l t h.own legal fresh;
       frames = λ n.
@@ -382,15 +382,15 @@ has_tx wire c pair class k kept items l seat within h legal fresh =
           );
       known = All-append (λ (k : ℕ). k < classes_of c) h.queue.origins (replicate (length more) class) h.queue.known (all_one (λ (k : ℕ). k < classes_of c) (length more) class within);
       waits = λ other below.
-          let v = sending_of c (socket_at_class c pair other) l in
+          let v = tx_work_of c (socket_at_class c pair other) l in
           ⊎_elim
-          (λ (e : other ≡ class). subst (λ (j : ℕ). of_class j origins (kept.finished ++ more) ≡ waiting c (sending_of c (socket_at_class c pair j) m)) (sym e) here)
+          (λ (e : other ≡ class). subst (λ (j : ℕ). of_class j origins (kept.finished ++ more) ≡ waiting c (tx_work_of c (socket_at_class c pair j) m)) (sym e) here)
           (λ (e : other ≡ class → ⊥).
           of_class-append other h.queue.origins (replicate (length more) class) kept.finished more h.queue.each
           ∙ ap (λ (ws : List (List Item)). of_class other h.queue.origins kept.finished ++ ws) (of_class-other other class more e)
           ∙ append-nil (of_class other h.queue.origins kept.finished)
           ∙ h.queue.waits other below
           ∙ ap (λ (b : Bool). waiting c (cond b (record v { peeked = v.peeked ++ items }) v)) (sym (ne_eqb (socket_at_class c pair other) s (sockets_apart c pair other class e)))
-          ∙ ap (λ (w : Sending). waiting c w) (sym (sending_of-push c (socket_at_class c pair other) l t)))
+          ∙ ap (λ (w : TxWork). waiting c w) (sym (tx_work_of-push c (socket_at_class c pair other) l t)))
           (cases_eq other class);
     }

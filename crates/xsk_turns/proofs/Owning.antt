@@ -23,7 +23,7 @@ use Rattle.xsk_turns.proofs.Places.{batch_some, batch_few, class_here, rx_ring, 
 use Rattle.xsk_turns.proofs.Rooms.{fill_frames, all_whole, lost_few}
 use Rattle.xsk_turns.proofs.Acknowledging.{redirects, closing_is, closing_here, IsReady, ready_at}
 use Rattle.xsk_turns.proofs.Walks.{Premise, MeetAlong, release_due, meet_weaker}
-use Rattle.xsk_turns.proofs.DriverPlaces.{Place, Trying, Sending, Idling, Family, Point, Known, asked, LookClosing, TellAcked, TellRxDone, TellBounced, LookCell, PeekFill, ReleaseFill, ReserveRx, SubmitRx, ReserveComp, SubmitComp, PeekTx, ReleaseTx, LookTxDone, TellGone, ArmFill, ArmTx, LookEnd, LookKick, ClearKick, DisarmFill, DisarmTx, call_at, kept_at, IsTried, fill_items, tx_items, rx_granted, comp_granted, comp_full, point_of, reply_of, visited, idles, arms, seeks, misses, looks, finds, parks, disarmed, Said, AtEntries, AtPasses, IsLaw, together}
+use Rattle.xsk_turns.proofs.DriverStages.{Stage, Trying, Sending, Idling, Family, Point, Known, asked, LookClosing, TellAcked, TellRxDone, TellBounced, LookCell, PeekFill, ReleaseFill, ReserveRx, SubmitRx, ReserveComp, SubmitComp, PeekTx, ReleaseTx, LookTxDone, TellGone, ArmFill, ArmTx, LookEnd, LookKick, ClearKick, DisarmFill, DisarmTx, call_at, kept_at, IsTried, fill_items, tx_items, rx_granted, comp_granted, comp_full, point_of, reply_of, visited, idles, arms, seeks, misses, looks, finds, parks, disarmed, Said, AtEntries, AtSilent, IsLaw, together}
 use Rattle.xsk_turns.proofs.DriverWalk.{at_call, at_end, meets_said}
 
 -- ---- a packet that goes to a socket
@@ -55,7 +55,7 @@ module _ (wire : Wire) (c : Config) (pair : ℕ) (is : IsSeat c pair) where
   Ended kept l = Has kept l × (kept.finished ≡ [])
 
   -- what is due, and that a driver is idle with finished packets only where COMPLETION was full
-  abbrev Beside : Place → Noted → Kept → List Told → Type 0
+  abbrev Beside : Stage → Noted → Kept → List Told → Type 0
   Beside (Trying look packet s due) noted kept l = IsDue due l
   Beside (Sending look k due) noted kept l = IsDue due l
   Beside Idling noted kept l = noted.full ≡ false → kept.finished ≡ []
@@ -193,17 +193,17 @@ module _ (wire : Wire) (c : Config) (pair : ℕ) (is : IsSeat c pair) where
   entries (comp_full k packet later free) noted kept l known found h a q = (told kept _ (Full free) l refl a q, λ f. absurd (cc))
   entries e noted kept l known found h a q = (told (kept_at seat (point_of e) kept) (call_at seat (point_of e) kept) (reply_of e) l refl a q, tt)
 
-  passes : AtPasses seat Answers At
-  passes visited noted kept l = λ h none. (h.0, λ f. none)
-  passes idles noted kept l = λ h e. (h.0, tt)
-  passes arms noted kept l = λ h e. (h.0, tt)
-  passes looks noted kept l = λ h e. (h.0, tt)
-  passes (seeks packet s) noted kept l = λ h e. (h.0, tt)
-  passes (misses packet s) noted kept l = λ h e. (h.0, tt)
-  passes finds noted kept l = λ h e. (h.0, tt)
-  passes parks noted kept l = λ h e. (h.0, tt)
-  passes disarmed noted kept l = λ h e. (h.0, tt)
-  passes p noted kept l = λ h e. h
+  silent : AtSilent seat Answers At
+  silent visited noted kept l = λ h none. (h.0, λ f. none)
+  silent idles noted kept l = λ h e. (h.0, tt)
+  silent arms noted kept l = λ h e. (h.0, tt)
+  silent looks noted kept l = λ h e. (h.0, tt)
+  silent (seeks packet s) noted kept l = λ h e. (h.0, tt)
+  silent (misses packet s) noted kept l = λ h e. (h.0, tt)
+  silent finds noted kept l = λ h e. (h.0, tt)
+  silent parks noted kept l = λ h e. (h.0, tt)
+  silent disarmed noted kept l = λ h e. (h.0, tt)
+  silent p noted kept l = λ h e. h
 
   abbrev Both : Family
   Both place noted kept l = Counts place noted kept l × At place noted kept l
@@ -215,7 +215,7 @@ module _ (wire : Wire) (c : Config) (pair : ℕ) (is : IsSeat c pair) where
   EndedBoth kept l = EndsSo seat Answers kept l × Ended kept l
 
   law : IsLaw seat Answers Both AskedBoth EndedBoth
-  law = together seat Answers Counts At (SaysNothing seat Answers) Asked (EndsSo seat Answers) Ended (counts_bounced seat Answers) calls entries passes
+  law = together seat Answers Counts At (SaysNothing seat Answers) Asked (EndsSo seat Answers) Ended (counts_bounced seat Answers) calls entries silent
       (λ noted kept l n known h a q. (told kept (Swap (Gone pair) 1) (Old n) l refl a q, h.1 known.1))
 
 -- ---- at first

@@ -5,7 +5,7 @@ use Rattle.xsk_model.specs.Config.{classes_of}
 use Rattle.xsk_turns.specs.Turns.{Seat, Kept, seat_of, start, turn}
 use Rattle.xsk_turns.specs.Watching.{ParkedLooks, EndsAwake}
 use Rattle.xsk_turns.proofs.Walks.{Anything, meet_anything}
-use Rattle.xsk_turns.proofs.DriverPlaces.{Family, Parked, LookKick, found_none, kicked, parks, Said, AtCalls, AtEntries, AtPasses, IsLaw}
+use Rattle.xsk_turns.proofs.DriverStages.{Family, Parked, LookKick, found_none, kicked, parks, Said, AtCalls, AtEntries, AtSilent, IsLaw}
 use Rattle.xsk_turns.proofs.DriverWalk.{at_call, at_end}
 
 module _ (seat : Seat) where
@@ -31,12 +31,12 @@ module _ (seat : Seat) where
   entries (kicked frames n) noted kept l known found h a q = refl
   entries e noted kept l known found h a q = h
 
-  passes : AtPasses seat Anything At
-  passes parks noted kept l = λ h e. refl
-  passes p noted kept l = λ h e. h
+  silent : AtSilent seat Anything At
+  silent parks noted kept l = λ h e. refl
+  silent p noted kept l = λ h e. h
 
   law : IsLaw seat Anything At Looks Awake
-  law = record { calls = calls; entries = entries; passes = passes; ends = λ noted kept l n known h a q. h }
+  law = record { calls = calls; entries = entries; silent = silent; ends = λ noted kept l n known h a q. h }
 
 pub parked_looks : ParkedLooks
 parked_looks wire c d input l kept call rest asks =

@@ -11,7 +11,7 @@ use Rattle.xsk_turns.specs.Turns.{Seat, Judged, Kept, seat_of, start, turn, retu
 use Rattle.xsk_turns.specs.declared.wire.Wire.{Wire}
 use Rattle.xsk_turns.specs.Law.{NothingReceivedLate, TellsRxDone}
 use Rattle.xsk_turns.proofs.Walks.{Anything, meet_anything}
-use Rattle.xsk_turns.proofs.DriverPlaces.{Family, Begins, TellRxDone, SubmitRx, call_at, told_rx_done, told_bounced, looked_none, looked_long, rx_submitted, comp_submitted, looked_tx_done, armed_fill, armed_tx, found_end, cleared_kick, disarmed_fill, disarmed_tx, point_of, reply_of, untried, drops_full, drops_frameless, Said, AtCalls, AtEntries, AtPasses, IsLaw, told_acked}
+use Rattle.xsk_turns.proofs.DriverStages.{Family, Begins, TellRxDone, SubmitRx, call_at, told_rx_done, told_bounced, looked_none, looked_long, rx_submitted, comp_submitted, looked_tx_done, armed_fill, armed_tx, found_end, cleared_kick, disarmed_fill, disarmed_tx, point_of, reply_of, untried, drops_full, drops_frameless, Said, AtCalls, AtEntries, AtSilent, IsLaw, told_acked}
 use Rattle.xsk_turns.proofs.DriverWalk.{at_call, at_end, of_run}
 use Rattle.xsk_model.specs.declared.call.Mark.TheVariants.{Acked}
 
@@ -135,17 +135,17 @@ module _ (wire : Wire) (c : Config) (d s : ℕ) where
   entries (told_acked t n) noted kept l known found h a q = swaps d s kept.rx_done kept.tx_done kept.coming l (Acked t) 1 n refl h
   entries e noted kept l known found h a q = still d s kept.rx_done kept.tx_done kept.coming l (call_at seat (point_of e) kept) (reply_of e) (λ u. refl) h
 
-  passes : AtPasses seat Anything (At d s)
-  passes (untried packet later x) noted kept l = λ h e. dropped d s kept.rx_done kept.tx_done kept.coming l h
-  passes (drops_full packet t) noted kept l = λ h e. dropped d s kept.rx_done kept.tx_done kept.coming l h
-  passes (drops_frameless packet t) noted kept l = λ h e. dropped d s kept.rx_done kept.tx_done kept.coming l h
-  passes p noted kept l = λ h e. h
+  silent : AtSilent seat Anything (At d s)
+  silent (untried packet later x) noted kept l = λ h e. dropped d s kept.rx_done kept.tx_done kept.coming l h
+  silent (drops_full packet t) noted kept l = λ h e. dropped d s kept.rx_done kept.tx_done kept.coming l h
+  silent (drops_frameless packet t) noted kept l = λ h e. dropped d s kept.rx_done kept.tx_done kept.coming l h
+  silent p noted kept l = λ h e. h
 
   law : IsLaw seat Anything (At d s) (OnTime d s) (Over d s)
   law = record {
     calls = calls;
     entries = entries;
-    passes = passes;
+    silent = silent;
     ends = λ noted kept l n known h a q. let now = swaps d s kept.rx_done kept.tx_done kept.coming l (Gone d) 1 n refl h in (now.late, now.told ∙ now.first known.2);
   }
 

@@ -1,7 +1,7 @@
 -- Giving back the first finished packet completes that packet alone, and no other call completes any.
 use Rattle.std.proofs.Common.{◌≡◌, ℕ, ◌≤◌, Bool, true, false, cond, List, [], ◌∷◌, ◌++◌, length, get_or, map, flat_map, refl, sym, ap, subst, ◌∙◌, ⊎_elim, arith, append_assoc, append-nil, length-append, ne_eqb}
 use Rattle.std.proofs.lemmas.Bool.{cases_eq}
-use Rattle.xsk_turns.proofs.Object.{Config, times, bytes_of, taken, completed_by, waiting, sending_of, IsLegal, Fits, sockets_of, completed_in}
+use Rattle.xsk_turns.proofs.Object.{Config, times, bytes_of, taken, completed_by, waiting, tx_work_of, IsLegal, Fits, sockets_of, completed_in}
 use Rattle.xsk_model.specs.Sent.{all_sent_from, bounced_in}
 use Rattle.xsk_turns.proofs.Calls.{Told, with_told, Comp, Call, Submit, Reply}
 use Rattle.xsk_model.specs.declared.call.Act.TheVariants.{Call as Gave, Ended as IsEnded}
@@ -10,7 +10,7 @@ use Rattle.xsk_model.proofs.Completions.{one_completion}
 use Rattle.xsk_turns.specs.Turns.{Judged, Kept, seat_of, returned}
 use Rattle.xsk_turns.specs.Owned.{IsSeat, socket_at_class, Owned}
 use Rattle.xsk_turns.specs.declared.wire.Wire.{Wire}
-use Rattle.xsk_turns.specs.Sending.{is_completing, bouncing, Completes, sent_by, sent_with, sent_by_act}
+use Rattle.xsk_turns.specs.SentWith.{is_completing, bouncing, Completes, sent_by, sent_with, sent_by_act}
 use Rattle.xsk_turns.proofs.Completing.{completes}
 use Rattle.xsk_turns.proofs.Legality.{first_class, first_known, behind_first, first_waits}
 use Rattle.xsk_turns.proofs.Owned.{HasKept, has_told}
@@ -48,8 +48,8 @@ completed_first c pair seat kept l h some legal =
     let packet = get_or kept.finished 0 [] in
     let items = map returned packet in
     let s = socket_at_class c pair (first_class c pair kept l h some) in
-    let f = λ (t : ℕ). completed_by items (waiting c (sending_of c t l)) in
-    only_part f packet s (sockets_of c pair) (completes packet (behind_first c pair kept l h some) (waiting c (sending_of c s l)) (first_waits c pair kept l h some))
+    let f = λ (t : ℕ). completed_by items (waiting c (tx_work_of c t l)) in
+    only_part f packet s (sockets_of c pair) (completes packet (behind_first c pair kept l h some) (waiting c (tx_work_of c s l)) (first_waits c pair kept l h some))
     (class_among c pair seat (first_class c pair kept l h some) (first_known c pair kept l h some)) (omega (arith, one_completion c pair l items h.own legal))
 
 -- ---- the next call

@@ -20,7 +20,7 @@ use Rattle.xsk_turns.proofs.Owned.{has_tx}
 use Rattle.xsk_turns.proofs.Owning.{meet_owned, no_group, has_ended}
 use Rattle.xsk_turns.proofs.Rooms.{lost_few}
 use Rattle.xsk_turns.proofs.Walks.{Premise}
-use Rattle.xsk_turns.proofs.DriverPlaces.{Family, SubmitComp, call_at, comp_submitted, tx_items, point_of, reply_of, visited, Said, AtCalls, AtEntries, AtPasses, IsLaw}
+use Rattle.xsk_turns.proofs.DriverStages.{Family, SubmitComp, call_at, comp_submitted, tx_items, point_of, reply_of, visited, Said, AtCalls, AtEntries, AtSilent, IsLaw}
 use Rattle.xsk_turns.proofs.DriverWalk.{at_call, at_end}
 
 -- ---- items with frames
@@ -245,12 +245,12 @@ module _ (wire : Wire) (c : Config) (pair : ℕ) (is : IsSeat c pair) where
       }
   entries e noted kept l known found h a q = same kept _ l (call_at seat (point_of e) kept) (reply_of e) refl refl refl refl refl h
 
-  passes : AtPasses seat Given At
-  passes visited noted kept l = λ h e. h
-  passes p noted kept l = λ h e. record { groups = h.groups; finished = h.finished; count = h.count; none = h.none }
+  silent : AtSilent seat Given At
+  silent visited noted kept l = λ h e. h
+  silent p noted kept l = λ h e. record { groups = h.groups; finished = h.finished; count = h.count; none = h.none }
 
   law : IsLaw seat Given At Says Strands
-  law = record { calls = calls; entries = entries; passes = passes; ends = λ noted kept l n known h a q. same kept kept l (Swap (Gone pair) 1) (Old n) refl refl refl refl refl h }
+  law = record { calls = calls; entries = entries; silent = silent; ends = λ noted kept l n known h a q. same kept kept l (Swap (Gone pair) 1) (Old n) refl refl refl refl refl h }
 
 first : (wire : Wire) (c : Config) (pair : ℕ) (is : IsSeat c pair) (input : List Judged) → Strands wire c pair is (start (classes_of c) input) []
 first wire c pair is input = record {

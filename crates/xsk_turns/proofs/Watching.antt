@@ -14,7 +14,7 @@ use Rattle.xsk_turns.specs.Watching.{Watching, peeked, watching_after, watching_
 use Rattle.xsk_turns.specs.declared.wire.Wire.{Wire}
 use Rattle.xsk_turns.proofs.ScriptLemmas.{leaves_front, asked_last}
 use Rattle.xsk_turns.proofs.Walks.{Anything, meet_anything}
-use Rattle.xsk_turns.proofs.DriverPlaces.{Family, Begins, Starting, Acking, Arming, Again, Trying, Lacking, Sending, Parked, Woken, Disarming, LookKick, saw_fed, saw_closed, told_acked, told_rx_done, fill_empty, fill_items, fill_released, tx_empty, tx_items, tx_released, looked_tx_done, armed_fill, armed_tx, found_end, found_none, kicked, not_kicked, cleared_kick, disarmed_fill, disarmed_tx, receives, idles, arms, seeks, sought, misses, looks, finds, parks, disarmed, call_at, point_of, reply_of, Said, AtCalls, AtEntries, AtPasses, IsLaw}
+use Rattle.xsk_turns.proofs.DriverStages.{Family, Begins, Starting, Acking, Arming, Again, Trying, Lacking, Sending, Parked, Woken, Disarming, LookKick, saw_fed, saw_closed, told_acked, told_rx_done, fill_empty, fill_items, fill_released, tx_empty, tx_items, tx_released, looked_tx_done, armed_fill, armed_tx, found_end, found_none, kicked, not_kicked, cleared_kick, disarmed_fill, disarmed_tx, receives, idles, arms, seeks, sought, misses, looks, finds, parks, disarmed, call_at, point_of, reply_of, Said, AtCalls, AtEntries, AtSilent, IsLaw}
 use Rattle.xsk_turns.proofs.DriverWalk.{at_call}
 
 -- ---- the folds
@@ -146,19 +146,19 @@ module _ (seat : Seat) where
   fill_entries (disarmed_tx k n) noted kept l known found h a q = λ e. still_clear l _ (Old n) refl (h e)
   fill_entries e noted kept l known found h a q = still_clear l (call_at seat (point_of e) kept) (reply_of e) refl h
 
-  fill_passes : AtPasses seat Anything FillAt
-  fill_passes arms noted kept l = λ h e f. h
-  fill_passes (seeks packet s) noted kept l = λ h e. tt
-  fill_passes (sought packet s) noted kept l = λ h e. ((λ f. absurd (is_true (awaits noted) e.0 f)), λ f. absurd (is_true noted.progress e.1 f))
-  fill_passes (misses packet s) noted kept l = λ h e. ((λ f. absurd (is_true (awaits noted) e f)), λ f. h)
-  fill_passes looks noted kept l = λ h e. (h, λ p f. absurd (is_true (fill l).set f (h e)))
-  fill_passes finds noted kept l = λ h e. h.0
-  fill_passes parks noted kept l = λ h e. (h.0, h.1 e.0)
-  fill_passes disarmed noted kept l = λ h e. h refl
-  fill_passes p noted kept l = λ h e. h
+  fill_silent : AtSilent seat Anything FillAt
+  fill_silent arms noted kept l = λ h e f. h
+  fill_silent (seeks packet s) noted kept l = λ h e. tt
+  fill_silent (sought packet s) noted kept l = λ h e. ((λ f. absurd (is_true (awaits noted) e.0 f)), λ f. absurd (is_true noted.progress e.1 f))
+  fill_silent (misses packet s) noted kept l = λ h e. ((λ f. absurd (is_true (awaits noted) e f)), λ f. h)
+  fill_silent looks noted kept l = λ h e. (h, λ p f. absurd (is_true (fill l).set f (h e)))
+  fill_silent finds noted kept l = λ h e. h.0
+  fill_silent parks noted kept l = λ h e. (h.0, h.1 e.0)
+  fill_silent disarmed noted kept l = λ h e. h refl
+  fill_silent p noted kept l = λ h e. h
 
   fill_law : IsLaw seat Anything FillAt FillAsked Nothing
-  fill_law = record { calls = fill_calls; entries = fill_entries; passes = fill_passes; ends = λ noted kept l n known h a q. tt }
+  fill_law = record { calls = fill_calls; entries = fill_entries; silent = fill_silent; ends = λ noted kept l n known h a q. tt }
 
 -- ---- the TX ring of a class
 
@@ -199,16 +199,16 @@ module _ (seat : Seat) (class : ℕ) (below : class < seat.classes) where
   tx_entries (not_kicked frames n) noted kept l known found h a q = still_tx l _ (Old n) refl h
   tx_entries e noted kept l known found h a q = tt
 
-  tx_passes : AtPasses seat Anything TxAt
-  tx_passes (sought packet s) noted kept l = λ h e none p. absurd (omega (arith, none))
-  tx_passes (misses packet s) noted kept l = λ h e none p. absurd (omega (arith, none))
-  tx_passes looks noted kept l = λ h e none p. absurd (omega (arith, none))
-  tx_passes finds noted kept l = λ h e. tt
-  tx_passes parks noted kept l = λ h e. h below e.0
-  tx_passes p noted kept l = λ h e. h
+  tx_silent : AtSilent seat Anything TxAt
+  tx_silent (sought packet s) noted kept l = λ h e none p. absurd (omega (arith, none))
+  tx_silent (misses packet s) noted kept l = λ h e none p. absurd (omega (arith, none))
+  tx_silent looks noted kept l = λ h e none p. absurd (omega (arith, none))
+  tx_silent finds noted kept l = λ h e. tt
+  tx_silent parks noted kept l = λ h e. h below e.0
+  tx_silent p noted kept l = λ h e. h
 
   tx_law : IsLaw seat Anything TxAt TxAsked Nothing
-  tx_law = record { calls = tx_calls; entries = tx_entries; passes = tx_passes; ends = λ noted kept l n known h a q. tt }
+  tx_law = record { calls = tx_calls; entries = tx_entries; silent = tx_silent; ends = λ noted kept l n known h a q. tt }
 
 -- ---- the end
 
@@ -250,12 +250,12 @@ module _ (seat : Seat) where
   )
   end_entries e noted kept l known found h a q = still_told kept.rx_done l (call_at seat (point_of e) kept) (reply_of e) refl h
 
-  end_passes : AtPasses seat Anything EndAt
-  end_passes parks noted kept l = λ h e. (h, λ f. absurd (is_true (end l).set f (h ∙ e.1)))
-  end_passes p noted kept l = λ h e. h
+  end_silent : AtSilent seat Anything EndAt
+  end_silent parks noted kept l = λ h e. (h, λ f. absurd (is_true (end l).set f (h ∙ e.1)))
+  end_silent p noted kept l = λ h e. h
 
   end_law : IsLaw seat Anything EndAt EndAsked Nothing
-  end_law = record { calls = end_calls; entries = end_entries; passes = end_passes; ends = λ noted kept l n known h a q. tt }
+  end_law = record { calls = end_calls; entries = end_entries; silent = end_silent; ends = λ noted kept l n known h a q. tt }
 
 -- ---- a socket that is closed
 
@@ -330,19 +330,19 @@ module _ (seat : Seat) (s : ℕ) (mine : closing_of seat ≡ Some s) where
   closing_entries (disarmed_tx k n) noted kept l known found h a q = still_acks kept.acked l (Swap (NeedTx (socket_of seat k)) 0) (Old n) (λ o. refl) h
   closing_entries e noted kept l known found h a q = still_sees kept.acked l (call_at seat (point_of e) kept) (reply_of e) (λ o. refl) (λ x. refl) h
 
-  closing_passes : AtPasses seat Anything ClosingAt
-  closing_passes receives noted kept l = λ h e. (
+  closing_silent : AtSilent seat Anything ClosingAt
+  closing_silent receives noted kept l = λ h e. (
     h,
     λ f. ⊎_elim (λ (none : closing_of seat ≡ None). absurd (let two : None ≡ Some s = sym none ∙ mine in cc))
         (λ (told : kept.acked ≡ true). absurd (is_true kept.acked told f))
         e,
   )
-  closing_passes idles noted kept l = λ h e. h.0
-  closing_passes finds noted kept l = λ h e. h.0
-  closing_passes p noted kept l = λ h e. h
+  closing_silent idles noted kept l = λ h e. h.0
+  closing_silent finds noted kept l = λ h e. h.0
+  closing_silent p noted kept l = λ h e. h
 
   closing_law : IsLaw seat Anything ClosingAt ClosingAsked Nothing
-  closing_law = record { calls = closing_calls; entries = closing_entries; passes = closing_passes; ends = λ noted kept l n known h a q. tt }
+  closing_law = record { calls = closing_calls; entries = closing_entries; silent = closing_silent; ends = λ noted kept l n known h a q. tt }
 
 -- ---- the laws
 

@@ -7,7 +7,7 @@ use Rattle.xsk_model.specs.Config.{Config, classes_of}
 use Rattle.xsk_model.specs.Packets.{IsLayout, packets, whole_packets}
 use Rattle.xsk_model.specs.History.{OwnGoesOn}
 use Rattle.xsk_model.specs.Entry.{Told}
-use Rattle.xsk_model.specs.Own.{submitted_of, peeked_of, sending_of}
+use Rattle.xsk_model.specs.Own.{submitted_of, peeked_of, tx_work_of}
 use Rattle.xsk_model.specs.Ends.{draining_of, telling_of}
 use Rattle.xsk_model.specs.Steering.{packet_limit}
 use Rattle.xsk_model.specs.declared.call.Ring.TheVariants.{Rx, Tx}
@@ -80,5 +80,5 @@ DrainsTx = (wire : Wire) (c : Config) (d class : ℕ) (input : List Judged) (l :
 abbrev pub CompletesAll : Type 0
 CompletesAll = (wire : Wire) (c : Config) (d class : ℕ) (input : List Judged) (l : List Told) → IsSeat c d → OwnGoesOn c d [] l → IsWholeDriverRun wire c d input l
     → class < classes_of c
-    → (sending_of c (socket_at_class c d class) l).completed
+    → (tx_work_of c (socket_at_class c d class) l).completed
     ≡ length (whole_packets (packets c.geometry c.sg (peeked_of (Tx (socket_at_class c d class)) l)))

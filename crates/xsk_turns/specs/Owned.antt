@@ -10,7 +10,7 @@ use Rattle.xsk_model.specs.Packets.{rest}
 use Rattle.xsk_model.specs.Numbers.{times, numbers}
 use Rattle.xsk_model.specs.Object.{submitted}
 use Rattle.xsk_model.specs.Entry.{Told}
-use Rattle.xsk_model.specs.Own.{had_of, is_from_fill, peeked_of, waiting, sending_of}
+use Rattle.xsk_model.specs.Own.{had_of, is_from_fill, peeked_of, waiting, tx_work_of}
 use Rattle.xsk_model.specs.Legal.{IsLegal}
 use Rattle.xsk_model.specs.History.{Fits, OwnGoesOn}
 use Rattle.xsk_model.specs.Sent.{completed_in}
@@ -73,7 +73,7 @@ pub record IsQueue (c : Config) (pair : ℕ) (finished : List (List Item)) (call
   pub each : length origins ≡ length finished
   pub known : All (λ (class : ℕ). class < classes_of c) origins
   pub waits : (class : ℕ) → class < classes_of c → completed_in c (socket_at_class c pair class ∷ []) l call ++ of_class class origins finished
-      ≡ waiting c (sending_of c (socket_at_class c pair class) l)
+      ≡ waiting c (tx_work_of c (socket_at_class c pair class) l)
 
 -- a driver that keeps this, and gave the call after a list of its calls and replies
 pub record Owned (c : Config) (pair : ℕ) (kept : Kept) (call : Call) (l : List Told) : Type 0 where

@@ -5,12 +5,12 @@
 ghost use Rattle.xsk_turns.specs.AppLaw.{LanesInOrder, LanesPassedOn, LanesAltered, ChangesByNumber, ChangesRepeat, NothingSentLate, DrainsRx, OnlySetsKicks, WakesAtOnce, PaysAtOnce, PaysEndAtOnce};
 ghost use Rattle.xsk_turns.specs.AppOwned.{AppKeepsFrames, AppCallsLegal, AppKeepsFramesAtEnd};
 ghost use Rattle.xsk_turns.specs.AppSplit.{SplitKeepsLanes, SplitKeepsFrames, StepCallsLegal, LaterCallsLegal, LaterFramesAtEnd};
-ghost use Rattle.xsk_turns.specs.Counted.{KeepsCounters, KeepsCountersAtEnd};
-ghost use Rattle.xsk_turns.specs.Disposes.{KeepsDisposals, DisposesAll};
+ghost use Rattle.xsk_turns.specs.Statistics.{KeepsCounters, KeepsCountersAtEnd};
+ghost use Rattle.xsk_turns.specs.KeptDisposals.{KeepsDisposals, DisposesAll};
 ghost use Rattle.xsk_turns.specs.Law.{EachDisposedOnce, DisposedAsSaid, DeliversInOrder, DeliversSized, DeliversAsSaid, NothingReceivedLate, TellsRxDone, DrainsTx, CompletesAll};
 ghost use Rattle.xsk_turns.specs.Hands.{HandsPassOn, HandsDrainRx, HandsSendNothingLate, HandsOnlySetKicks, SplitOwesNothing, StepPaysAtOnce};
 ghost use Rattle.xsk_turns.specs.Owned.{KeepsFrames, KeepsFramesAtEnd, LeavesRoom, FinishedFew};
-ghost use Rattle.xsk_turns.specs.Sending.{BouncesNext, BouncesAll};
+ghost use Rattle.xsk_turns.specs.SentWith.{BouncesNext, BouncesAll};
 ghost use Rattle.xsk_turns.specs.Stranded.{KeepsStranded, KeepsStrandedAtEnd, NoneStranded};
 ghost use Rattle.xsk_turns.specs.Verdicts.{OneVerdicts};
 ghost use Rattle.xsk_turns.specs.Watching.{ParkedWatches, ParkedLooks, EndsAwake};

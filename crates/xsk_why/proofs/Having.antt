@@ -19,7 +19,7 @@ use Rattle.xsk_log.specs.declared.log.Event.{Event}
 use Rattle.xsk_log.specs.declared.log.Event.TheVariants.{Granted as WasGranted, Full as WasFull, Submitted as WasSubmitted, Items as HadItems, Empty as WasEmpty, Released as WasReleased, Swapped, Looked}
 use Rattle.xsk_log.specs.declared.log.Log.{Log}
 use Rattle.xsk_log.specs.declared.log.Row.{Row}
-use Rattle.xsk_why.specs.Having.{all_by, had_by, had_next, held_by, is_held, is_submit, without_all, without_held}
+use Rattle.xsk_why.specs.KeptFrames.{all_by, had_by, had_next, held_by, is_held, is_submit, without_all, without_held}
 use Rattle.xsk_why.specs.declared.held.Held.{Held}
 use Rattle.xsk_why.proofs.Noting.{drop_end, here}
 

@@ -19,7 +19,7 @@ use Rattle.xsk_log.specs.Log.{calls_of, entries_of, entries_from, item_of}
 use Rattle.xsk_log.specs.declared.log.Log.{Log}
 use Rattle.xsk_log.specs.declared.log.Row.{Row}
 use Rattle.xsk_why.specs.Waiting.{Waiting, is_told, told_once, waits_after, waits_from, waits_of, waiting_by}
-use Rattle.xsk_why.specs.Waits.{shown, waiting_in}
+use Rattle.xsk_why.specs.KeptWaits.{shown, waiting_in}
 use Rattle.xsk_why.specs.declared.waits.Wait.{Wait}
 
 -- ---- a call and its items

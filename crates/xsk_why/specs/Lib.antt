@@ -1,8 +1,8 @@
 pub mod Frames
-pub mod Having
+pub mod KeptFrames
 pub mod Held
 pub mod Numbered
 pub mod Rings
 pub mod Waiting
-pub mod Waits
+pub mod KeptWaits
 pub mod Why

@@ -10,7 +10,7 @@ ghost use Rattle.xsk_log.specs.Left.{left_of};
 ghost use Rattle.xsk_log.specs.Line.{who_text};
 ghost use Rattle.xsk_log.specs.Repeats.{of_option};
 ghost use Rattle.xsk_why.specs.Frames.{ranges, ranges_from};
-ghost use Rattle.xsk_why.specs.Having.{all_by, cut_at, had_by, had_next, is_held, is_submit as gives, without_all, without_held};
+ghost use Rattle.xsk_why.specs.KeptFrames.{all_by, cut_at, had_by, had_next, is_held, is_submit as gives, without_all, without_held};
 ghost use Rattle.xsk_why.specs.Held.{callers_text, line_by, lines_to};
 ghost use Rattle.xsk_why.specs.declared.held.Held.{Held as AHeld};
 

@@ -3,7 +3,7 @@ ghost use Rattle.std.specs.Prelude.{◌≡◌, ◌++◌, ℕ, IfOk, OnOk, length
 ghost use Rattle.xsk_model.specs.Asks.{answer_of, ask_of};
 ghost use Rattle.xsk_model.specs.Entry.{Entry};
 ghost use Rattle.xsk_log.specs.Line.{line_of};
-ghost use Rattle.xsk_why.specs.Waits.{shown, waiting_in};
+ghost use Rattle.xsk_why.specs.KeptWaits.{shown, waiting_in};
 ghost use Rattle.xsk_why.specs.Waiting.{is_told, lines_by, told_once, waits_after, waits_line, waits_of, waits_text};
 
 use crate::text::push_word;

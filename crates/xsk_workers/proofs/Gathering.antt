@@ -10,14 +10,14 @@ use Rattle.xsk_model.specs.Config.{IsRegular, callers_of, classes_of}
 use Rattle.xsk_model.specs.Entry.{Told, own}
 use Rattle.xsk_model.specs.declared.call.Act.TheVariants.{Ended}
 use Rattle.xsk_model.proofs.CallTheorems.{callers_exist}
-use Rattle.xsk_turns.specs.Counted.{capped}
+use Rattle.xsk_turns.specs.Statistics.{capped}
 use Rattle.xsk_turns.specs.Hands.{IsWholeRunOf, IsWholeAppRunOf}
 use Rattle.xsk_turns.specs.AppSplit.{IsWholeSplitRun}
 use Rattle.xsk_turns.specs.Workers.{Setting, IsWholeRun, input_of}
 use Rattle.xsk_turns.specs.declared.manner.Manner.{Manner}
 use Rattle.xsk_turns.specs.declared.wire.Wire.{Wire}
 use Rattle.xsk_machine.specs.Figures.{figures_in}
-use Rattle.xsk_machine.specs.Figured.{driver_figures_by, driver_figures_of, figures_of}
+use Rattle.xsk_machine.specs.HistoryFigures.{driver_figures_by, driver_figures_of, figures_of}
 use Rattle.xsk_driver.specs.Shown.{Shown as DriverShown}
 use Rattle.xsk_machine.specs.declared.figures.DriverFigures.{DriverFigures}
 use Rattle.xsk_machine.specs.declared.figures.Figures.{Figures}

@@ -21,7 +21,7 @@ use Rattle.xsk_turns.specs.declared.wire.Wire.{Wire}
 use Rattle.xsk_turns.specs.declared.wire.Wire.TheVariants.{Wait}
 use Rattle.xsk_driver.specs.Asking.{IsAnswer}
 use Rattle.xsk_machine.specs.Acts.{sent_of}
-use Rattle.xsk_machine.specs.Figured.{figures_of}
+use Rattle.xsk_machine.specs.HistoryFigures.{figures_of}
 use Rattle.xsk_machine.specs.declared.figures.Figures.{Figures}
 pub use Rattle.xsk_machine.specs.Acts.{packets_in}
 use Rattle.xsk_machine.specs.Workers.{HasGiven}

@@ -3,11 +3,11 @@ use Rattle.std.specs.Prelude.{◌≡◌, ℕ, ◌+◌, ◌<◌, ◌≤◌, Optio
 use Rattle.xsk_model.specs.Config.{callers_of}
 use Rattle.xsk_model.specs.Entry.{Told, own}
 use Rattle.xsk_model.specs.declared.call.Act.TheVariants.{Ended}
-use Rattle.xsk_turns.specs.Counted.{capped}
+use Rattle.xsk_turns.specs.Statistics.{capped}
 use Rattle.xsk_turns.specs.Hands.{IsWholeRunOf}
 use Rattle.xsk_turns.specs.Workers.{Setting, input_of}
 use Rattle.xsk_machine.specs.Acts.{sent_along}
-use Rattle.xsk_machine.specs.Figured.{driver_figures_by}
+use Rattle.xsk_machine.specs.HistoryFigures.{driver_figures_by}
 use Rattle.xsk_machine.specs.declared.figures.DriverFigures.{DriverFigures}
 use Rattle.xsk_machine.proofs.Acts.{IsWithin}
 use Rattle.xsk_table.specs.Held.{Board, Holder, new_pass}

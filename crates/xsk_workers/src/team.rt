@@ -3,7 +3,7 @@
 ghost use Rattle.std.specs.Prelude.{◌≡◌, length, IfOk, IfErr};
 ghost use Rattle.xsk_rings.specs.Rounds.{mine_of};
 ghost use Rattle.xsk_table.specs.View.{idle};
-ghost use Rattle.xsk_turns.specs.Counted.{capped};
+ghost use Rattle.xsk_turns.specs.Statistics.{capped};
 ghost use Rattle.xsk_shared_ends.specs.Shown.{name_of};
 ghost use Rattle.xsk_shared_ends.specs.Last.{shown_of_ends};
 ghost use Rattle.xsk_shared_ends.specs.declared.last.Turned.TheVariants.{Ended};

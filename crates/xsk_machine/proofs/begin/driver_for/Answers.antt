@@ -3,7 +3,7 @@ use Rattle.std.specs.List.{concat, slice_index_or}
 use Rattle.xsk_prog.specs.declared.rule.Verdict.{Verdict}
 use Rattle.xsk_model.specs.Config.{pair_at}
 use Rattle.xsk_turns.specs.Inputs.{packets_of_port, packets_of_queue}
-use Rattle.xsk_turns.specs.Sending.{bouncing}
+use Rattle.xsk_turns.specs.SentWith.{bouncing}
 use Rattle.xsk_turns.specs.Turns.{Kept}
 use Rattle.xsk_turns.specs.Verdicts.{judged, EachHas, IsGiven}
 use Rattle.xsk_turns.specs.Workers.{Setting}

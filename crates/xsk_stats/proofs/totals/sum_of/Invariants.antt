@@ -1,5 +1,5 @@
 use Rattle.std.proofs.Common.{◌≡◌}
-use Rattle.xsk_turns.specs.Counted.{capped}
+use Rattle.xsk_turns.specs.Statistics.{capped}
 use Rattle.xsk_stats.specs.Report.{of_sockets}
 use Rattle.xsk_stats.proofs.totals.sum_of.Given as goal
 

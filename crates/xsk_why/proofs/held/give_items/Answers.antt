@@ -2,7 +2,7 @@ use Rattle.std.proofs.Common.{◌+◌, ◌<◌, length, drop, sym, ap, ◌∙◌
 use Rattle.xsk_model.specs.Numbers.{numbers}
 use Rattle.xsk_log.specs.Items.{next_items}
 use Rattle.xsk_log.specs.Left.{left_of}
-use Rattle.xsk_why.specs.Having.{without_all}
+use Rattle.xsk_why.specs.KeptFrames.{without_all}
 use Rattle.xsk_why.proofs.Fronts.{front_of}
 use Rattle.xsk_why.proofs.Having.{give_next}
 use Rattle.xsk_why.proofs.Noting.{drop_end}

@@ -5,7 +5,7 @@ use Rattle.xsk_model.specs.Object.{taken}
 use Rattle.xsk_model.specs.Own.{had_step}
 use Rattle.xsk_log.specs.Left.{left_of}
 use Rattle.xsk_log.specs.declared.entries.Noted.{Noted}
-use Rattle.xsk_why.specs.Having.{had_by, is_submit}
+use Rattle.xsk_why.specs.KeptFrames.{had_by, is_submit}
 use Rattle.xsk_why.proofs.Having.{brings_none, first_left, held_more, passed}
 use Rattle.xsk_why.proofs.Noting.{drop_end, here, log_count}
 use Rattle.xsk_why.proofs.held.held_in.Goals as goal

@@ -3,7 +3,7 @@ use Rattle.std.specs.List.{fold}
 use Rattle.xsk_model.specs.Entry.{own}
 use Rattle.xsk_model.specs.Own.{had_of, had_step}
 use Rattle.xsk_log.specs.Left.{left_of}
-use Rattle.xsk_why.specs.Having.{had_by}
+use Rattle.xsk_why.specs.KeptFrames.{had_by}
 use Rattle.xsk_why.proofs.held.held_in.Given as goal
 
 abbrev pub invariant-loop-i : goal.invariant-loop-i

@@ -3,7 +3,7 @@ use Rattle.xsk_model.specs.Asks.{ask_of}
 use Rattle.xsk_model.specs.Numbers.{numbers}
 use Rattle.xsk_stats.proofs.Lines.{on_ok}
 use Rattle.xsk_log.specs.Items.{next_items}
-use Rattle.xsk_why.specs.Having.{all_by, is_submit, without_all}
+use Rattle.xsk_why.specs.KeptFrames.{all_by, is_submit, without_all}
 use Rattle.xsk_why.proofs.Having.{gave, gives_none, took}
 use Rattle.xsk_why.proofs.held.note_items.Goals as goal
 

@@ -1,5 +1,5 @@
 use Rattle.std.proofs.Common.{◌≡◌, ◌++◌, take, drop}
-use Rattle.xsk_why.specs.Having.{without_held}
+use Rattle.xsk_why.specs.KeptFrames.{without_held}
 use Rattle.xsk_why.proofs.held.place_of.Given as goal
 
 abbrev pub invariant-loop-place : goal.invariant-loop-place

@@ -1,7 +1,7 @@
 use Rattle.std.proofs.Common.{◌≡◌, ◌++◌, ℕ, List}
 use Rattle.xsk_model.specs.Entry.{Entry, own}
 use Rattle.xsk_model.specs.Own.{had_of}
-use Rattle.xsk_why.specs.Having.{had_by}
+use Rattle.xsk_why.specs.KeptFrames.{had_by}
 use Rattle.xsk_why.specs.Held.{lines_to}
 use Rattle.xsk_why.proofs.held.push_callers.Given as goal
 

@@ -1,6 +1,6 @@
 use Rattle.std.proofs.Common.{◌≡◌, ◌++◌, drop}
 use Rattle.xsk_why.specs.Frames.{ranges, ranges_from}
-use Rattle.xsk_why.specs.Having.{had_by}
+use Rattle.xsk_why.specs.KeptFrames.{had_by}
 use Rattle.xsk_why.proofs.held.push_ranges.Given as goal
 
 abbrev pub invariant-loop-frame : goal.invariant-loop-frame

@@ -2,7 +2,7 @@ use Rattle.std.proofs.Common.{◌+◌, ◌++◌, ◌<◌, length, drop, sym, ap,
 use Rattle.xsk_model.specs.Numbers.{numbers}
 use Rattle.xsk_log.specs.Items.{next_items}
 use Rattle.xsk_log.specs.Left.{left_of}
-use Rattle.xsk_why.specs.Having.{all_by}
+use Rattle.xsk_why.specs.KeptFrames.{all_by}
 use Rattle.xsk_why.proofs.Fronts.{front_of}
 use Rattle.xsk_why.proofs.Having.{take_next}
 use Rattle.xsk_why.proofs.Noting.{drop_end}

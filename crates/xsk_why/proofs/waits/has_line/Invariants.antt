@@ -1,5 +1,5 @@
 use Rattle.std.proofs.Common.{◌≡◌, drop}
-use Rattle.xsk_why.specs.Waits.{shown}
+use Rattle.xsk_why.specs.KeptWaits.{shown}
 use Rattle.xsk_why.specs.Waiting.{is_told}
 use Rattle.xsk_why.proofs.waits.has_line.Given as goal
 

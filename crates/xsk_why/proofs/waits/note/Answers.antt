@@ -1,7 +1,7 @@
 use Rattle.std.proofs.Common.{ap, ◌∙◌}
 use Rattle.xsk_stats.proofs.Lines.{on_ok}
 use Rattle.xsk_why.specs.Waiting.{told_once}
-use Rattle.xsk_why.specs.Waits.{shown}
+use Rattle.xsk_why.specs.KeptWaits.{shown}
 use Rattle.xsk_why.proofs.Noting.{changed, quiet_by, unchanged, waiting_is}
 use Rattle.xsk_why.proofs.waits.note.Goals as goal
 

@@ -1,5 +1,5 @@
 use Rattle.std.proofs.Common.{◌≡◌, ◌++◌, drop}
-use Rattle.xsk_why.specs.Waits.{shown}
+use Rattle.xsk_why.specs.KeptWaits.{shown}
 use Rattle.xsk_why.specs.Waiting.{lines_by}
 use Rattle.xsk_why.proofs.waits.push_own.Given as goal
 

@@ -1,6 +1,6 @@
 use Rattle.xsk_stats.proofs.Lines.{line_more}
 use Rattle.xsk_why.specs.Waiting.{lines_by}
-use Rattle.xsk_why.specs.Waits.{shown}
+use Rattle.xsk_why.specs.KeptWaits.{shown}
 use Rattle.xsk_why.proofs.waits.push_waits.Goals as goal
 
 pub loop-who-preserved : goal.loop-who-preserved

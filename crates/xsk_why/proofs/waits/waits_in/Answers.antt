@@ -3,7 +3,7 @@ use Rattle.xsk_model.specs.Entry.{Entry}
 use Rattle.xsk_log.specs.Left.{left_of}
 use Rattle.xsk_log.specs.Line.{line_of}
 use Rattle.xsk_log.specs.declared.entries.Noted.{Noted}
-use Rattle.xsk_why.specs.Waits.{shown}
+use Rattle.xsk_why.specs.KeptWaits.{shown}
 use Rattle.xsk_why.specs.Waiting.{waits_from}
 use Rattle.xsk_why.proofs.Noting.{drop_end, here, log_count, taken_line, waits_more}
 use Rattle.xsk_why.proofs.waits.waits_in.Goals as goal

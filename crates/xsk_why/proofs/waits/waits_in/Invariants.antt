@@ -1,6 +1,6 @@
 use Rattle.std.proofs.Common.{◌≡◌, length, drop}
 use Rattle.xsk_log.specs.Left.{left_of}
-use Rattle.xsk_why.specs.Waits.{shown}
+use Rattle.xsk_why.specs.KeptWaits.{shown}
 use Rattle.xsk_why.specs.Waiting.{waits_from, waits_of}
 use Rattle.xsk_why.proofs.waits.waits_in.Given as goal
 

@@ -1,7 +1,7 @@
 use Rattle.std.proofs.Common.{arith, ◌≡◌, ◌≤◌, ℕ, List, length, map, refl, sym, ap, subst, ◌∙◌, false}
 use Rattle.std.specs.Prelude.{All, Option, is_some}
 use Rattle.std.proofs.lemmas.List.Elements.{All-map}
-use Rattle.xsk_driver.specs.Sent.{IsShort}
+use Rattle.xsk_driver.specs.SentRoom.{IsShort}
 use Rattle.xsk_model.specs.Config.{Config, IsRegular, callers_of}
 use Rattle.xsk_workers.specs.Forwarded.{packets_in, HasForwarded, OutcomeShown}
 use Rattle.xsk_machine.specs.Sent.{SentShown}

@@ -2,7 +2,7 @@ use Rattle.std.proofs.Common.{rules, ◌≡◌, ℕ, ◌+◌, ◌<◌, Some, Non
 use Rattle.std.specs.Vec.Iter.{into_iter_items}
 use Rattle.xsk_model.specs.Config.{callers_of, classes_of}
 use Rattle.xsk_model.specs.Entry.{own}
-use Rattle.xsk_turns.specs.Counted.{capped}
+use Rattle.xsk_turns.specs.Statistics.{capped}
 use Rattle.xsk_table.specs.Held.{Holder}
 use Rattle.xsk_workers.specs.Forwarded.{packets_in}
 use Rattle.xsk_workers.specs.Gathering.{HaveRunFrom, AreGiven, AreSent, IsSentOf, AreFiguresOf, IsFiguresOf, calls_in}

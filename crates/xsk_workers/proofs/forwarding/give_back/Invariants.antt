@@ -1,6 +1,6 @@
 use Rattle.std.proofs.Common.{◌≡◌, ℕ, ◌+◌, ◌≤◌, length, map, vec_items, vec_capacity}
 use Rattle.std.specs.Vec.Iter.{into_iter_items}
-use Rattle.xsk_turns.specs.Counted.{capped}
+use Rattle.xsk_turns.specs.Statistics.{capped}
 use Rattle.xsk_turns.specs.Workers.{Setting}
 use Rattle.xsk_model.specs.Config.{callers_of}
 use Rattle.xsk_workers.specs.Gathering.{HaveRun, HaveRunFrom, AreGiven, AreSent, AreFiguresOf, calls_in}

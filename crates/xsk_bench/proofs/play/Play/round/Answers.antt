@@ -3,7 +3,7 @@ use Rattle.std.specs.List.{range_with_len}
 use Rattle.xsk_umem.specs.Geometry.{IsGeometry}
 use Rattle.xsk_model.specs.Config.{Config}
 use Rattle.xsk_sim.proofs.Stalling.{both_true}
-use Rattle.xsk_bench.specs.Playing.{HadTurns}
+use Rattle.xsk_bench.specs.DriverRounds.{HadTurns}
 use Rattle.xsk_bench.proofs.Rounds.{had_none, had_more, going_on, played_same}
 use Rattle.xsk_bench.proofs.play.Play.round.Goals as goal
 

@@ -6,7 +6,7 @@ use Rattle.xsk_model.specs.Entry.{Entry}
 use Rattle.xsk_turns.specs.Workers.{Setting}
 use Rattle.xsk_sim.specs.Rooms.{most_payload}
 use Rattle.xsk_bench.specs.Played.{HasPlayed}
-use Rattle.xsk_bench.specs.Playing.{HadTurns}
+use Rattle.xsk_bench.specs.DriverRounds.{HadTurns}
 use Rattle.xsk_bench.proofs.play.Play.round.Given as goal
 
 abbrev pub invariant-loop-who : goal.invariant-loop-who

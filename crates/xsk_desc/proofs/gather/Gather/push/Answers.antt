@@ -3,7 +3,7 @@ use Rattle.std.proofs.Common.{◌≡◌, ap, ◌∙◌, rules}
 use Rattle.std.specs.Prelude.{Some, None, Option, option_to_list, ◌++◌}
 use Rattle.xsk_model.specs.Packets.{Packet, whole, bad, ended_by, group_after, packets}
 use Rattle.xsk_model.proofs.PacketsLaws.{packets-push, rest-push}
-use Rattle.xsk_desc.specs.Gathering.{Gathering}
+use Rattle.xsk_desc.specs.Unfinished.{Unfinished}
 use Rattle.xsk_desc.proofs.gather.Gather.push.Goals as goal
 
 pub returns-in-Bad-clause-packets : goal.returns-in-Bad-clause-packets
@@ -15,7 +15,7 @@ returns-in-Bad-clause-packets c =
 pub returns-in-Bad-clause-stands : goal.returns-in-Bad-clause-stands
 returns-in-Bad-clause-stands c =
     let kept : group_after c.args.geometry.now c.args.self.now.sg c.args.self.now.items c.args.item ≡ c.replace-in-Bad.new.dest = search rules in
-    let same : c.self.inside.sg ≡ c.args.self.now.sg = ap (λ (k : Gathering). k.sg) c.self.view_is in
+    let same : c.self.inside.sg ≡ c.args.self.now.sg = ap (λ (k : Unfinished). k.sg) c.self.view_is in
     λ pushed h. rw same (rest-push c.args.geometry.now c.args.self.now.sg pushed c.args.self.now.items c.args.item h ∙ kept)
 
 pub returns-in-More-clause-packets : goal.returns-in-More-clause-packets
@@ -27,7 +27,7 @@ returns-in-More-clause-packets c =
 pub returns-in-More-clause-stands : goal.returns-in-More-clause-stands
 returns-in-More-clause-stands c =
     let kept : group_after c.args.geometry.now c.args.self.now.sg c.args.self.now.items c.args.item ≡ c.push.new.self = search rules in
-    let same : c.self.inside.sg ≡ c.args.self.now.sg = ap (λ (k : Gathering). k.sg) c.self.view_is in
+    let same : c.self.inside.sg ≡ c.args.self.now.sg = ap (λ (k : Unfinished). k.sg) c.self.view_is in
     λ pushed h. rw same (rest-push c.args.geometry.now c.args.self.now.sg pushed c.args.self.now.items c.args.item h ∙ kept)
 
 pub returns-in-Whole-clause-packets : goal.returns-in-Whole-clause-packets
@@ -39,5 +39,5 @@ returns-in-Whole-clause-packets c =
 pub returns-in-Whole-clause-stands : goal.returns-in-Whole-clause-stands
 returns-in-Whole-clause-stands c =
     let kept : group_after c.args.geometry.now c.args.self.now.sg c.args.self.now.items c.args.item ≡ c.replace.new.dest = search rules in
-    let same : c.self.inside.sg ≡ c.args.self.now.sg = ap (λ (k : Gathering). k.sg) c.self.view_is in
+    let same : c.self.inside.sg ≡ c.args.self.now.sg = ap (λ (k : Unfinished). k.sg) c.self.view_is in
     λ pushed h. rw same (rest-push c.args.geometry.now c.args.self.now.sg pushed c.args.self.now.items c.args.item h ∙ kept)

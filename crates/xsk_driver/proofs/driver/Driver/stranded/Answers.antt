@@ -1,5 +1,5 @@
 use Rattle.std.proofs.Common.{rules, ◌≡◌, ap, ◌∙◌}
-use Rattle.xsk_turns.specs.Counted.{capped}
+use Rattle.xsk_turns.specs.Statistics.{capped}
 use Rattle.xsk_turns.specs.Stranded.{stranded_in}
 use Rattle.xsk_driver.proofs.Stranding.{stands_stranded, ended_stranded}
 use Rattle.xsk_driver.proofs.driver.Driver.stranded.Goals as goal

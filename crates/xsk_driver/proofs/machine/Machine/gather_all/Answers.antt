@@ -11,7 +11,7 @@ loop-item-preserved c =
       limits_after before c.loop-item.self c.gather.new.self c.loop-item.invariant.0 c.gather.ensures.limits,
       gathers_one before c.loop-item.self c.gather.new.self c.args.class c.args.items.now c.loop-item.items c.pop_front.new.self c.in-Some.item
           c.in-Some.ensures.some c.requires.within c.gather.ensures.leaves c.loop-item.invariant.1,
-      c.gather.ensures.sending ∙ c.loop-item.invariant.2,
+      c.gather.ensures.outbox ∙ c.loop-item.invariant.2,
       omega (arith, count, c.loop-item.invariant.3, c.gather.ensures.few),
     )
 

@@ -4,7 +4,7 @@ use Rattle.xsk_model.specs.declared.call.Call.TheVariants.{Peek}
 use Rattle.xsk_model.specs.declared.call.Reply.TheVariants.{Items}
 use Rattle.xsk_legal.specs.Noted.{Noted}
 use Rattle.xsk_legal.specs.Standing.{StandsFor, IsFetching}
-use Rattle.xsk_legal.proofs.Fetched.{fetched_goes, fetched_ends, fetched_steps}
+use Rattle.xsk_legal.proofs.StandingFetched.{fetched_goes, fetched_ends, fetched_steps}
 use Rattle.xsk_legal.proofs.standing.Standing.fetched.Goals as goal
 
 pub returns-clause-goes_on : goal.returns-clause-goes_on

@@ -5,8 +5,8 @@ use Rattle.xsk_model.specs.declared.call.Reply.TheVariants.{Submitted}
 use Rattle.xsk_legal.specs.Noted.{Noted}
 use Rattle.xsk_legal.specs.Standing.{StandsFor, IsPlacing}
 use Rattle.xsk_legal.specs.Pieces.{item_source}
-use Rattle.xsk_legal.specs.Noting.{HasGiven}
-use Rattle.xsk_legal.proofs.Placed.{placed_goes, placed_ends, given_same, placed_steps}
+use Rattle.xsk_legal.specs.ItemNotes.{HasGiven}
+use Rattle.xsk_legal.proofs.StandingPlaced.{placed_goes, placed_ends, given_same, placed_steps}
 use Rattle.xsk_legal.proofs.standing.Standing.placed.Goals as goal
 
 pub give_back-requires : goal.give_back-requires

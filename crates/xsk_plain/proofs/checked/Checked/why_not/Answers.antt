@@ -4,7 +4,7 @@ use Rattle.xsk_model.specs.Asks.{joined_call}
 use Rattle.xsk_model.specs.Config.{Config}
 use Rattle.xsk_model.specs.Entry.{own}
 use Rattle.xsk_model.specs.Legal.{IsLegal}
-use Rattle.xsk_legal.specs.Noting.{IsFor}
+use Rattle.xsk_legal.specs.ItemNotes.{IsFor}
 use Rattle.xsk_legal.specs.Why.{Fails}
 use Rattle.xsk_legal.proofs.Able.{stands_for}
 use Rattle.xsk_plain.specs.Engine.{Engine}

@@ -1,6 +1,6 @@
 use Rattle.std.proofs.Common.{List, length, sym, ap}
 use Rattle.xsk_model.specs.Entry.{Told}
-use Rattle.xsk_turns.specs.Counted.{capped}
+use Rattle.xsk_turns.specs.Statistics.{capped}
 use Rattle.xsk_shared_ends.proofs.counting.Counted.new.Goals as goal
 
 pub invariant_of-result : goal.invariant_of-result

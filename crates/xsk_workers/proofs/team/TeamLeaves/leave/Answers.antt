@@ -2,7 +2,7 @@ use Rattle.std.proofs.Common.{◌≡◌, ◌∙◌, None, length, map, refl, ap,
 use Rattle.xsk_machine.specs.Acts.{packets_in}
 use Rattle.xsk_rings.specs.Rounds.{mine_of}
 use Rattle.xsk_table.specs.View.{idle}
-use Rattle.xsk_turns.specs.Counted.{capped}
+use Rattle.xsk_turns.specs.Statistics.{capped}
 use Rattle.xsk_workers.specs.Hands.{TeamShown}
 use Rattle.xsk_workers.proofs.team.TeamLeaves.leave.Goals as goal
 

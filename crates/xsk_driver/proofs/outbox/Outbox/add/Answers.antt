@@ -1,0 +1,26 @@
+use Rattle.std.proofs.Common.{arith, sym, ◌∙◌, inl, inr}
+use Rattle.std.proofs.lemmas.Bool.{true≢false}
+use Rattle.std.proofs.lemmas.List.Elements.{All-push}
+use Rattle.xsk_driver.specs.SentRoom.{IsShort}
+use Rattle.xsk_driver.specs.Outbox.{outbox_of}
+use Rattle.xsk_umem.proofs.Lengths.{length_concat-push}
+use Rattle.xsk_driver.proofs.Sent.{add_over, add_within}
+use Rattle.xsk_driver.proofs.sending.Outbox.add.Goals as goal
+use Rattle.xsk_driver.proofs.sending.Outbox.add.Goals.{then-self-via-then-self, then-self-via-else-self+then-self-eq0, then-self-via-else-self+else-self-eq0+then-bytes-self}
+
+pub invariant_of-self-2-clause-bytes_few : goal.invariant_of-self-2-clause-bytes_few
+invariant_of-self-2-clause-bytes_few c = rw (c.push_reserved.ensures.packets, length_concat-push) (omega (arith, c.args.self.now.bytes_few))
+
+pub invariant_of-self-2-clause-short : goal.invariant_of-self-2-clause-short
+invariant_of-self-2-clause-short c = rw (c.push_reserved.ensures.packets) (All-push IsShort c.args.self.now.list.packets _ c.args.self.now.short c.requires)
+
+pub returns-then-self-clause-sends : goal.returns-then-self-clause-sends
+returns-then-self-clause-sends c packets sends =
+    add_over (outbox_of c.args.self.now) c.args.self.now.packets_left c.args.self.now.bytes_left packets c.args.bytes.now
+    (λ is. elim c.then-self.branch [ then-self-via-then-self w ↦ absurd (true≢false (sym w.if-self.true ∙ is)) | then-self-via-else-self+then-self-eq0 w ↦ inl w.if-self-eq0.true | then-self-via-else-self+else-self-eq0+then-bytes-self w ↦ inr w.if-bytes-self.true ])
+    c.args.self.now.packets_few c.args.self.now.bytes_few sends
+
+pub returns-clause-sends : goal.returns-clause-sends
+returns-clause-sends c packets sends =
+    add_within (outbox_of c.args.self.now) c.args.self.now.packets_left c.args.self.now.bytes_left c.push_reserved.new.self.packets packets c.args.bytes.now
+    c.if-self.false c.if-self-eq0.false c.if-bytes-self.false c.push_reserved.ensures.packets c.args.self.now.packets_few c.args.self.now.bytes_few sends
