@@ -3,7 +3,7 @@
 
 from collections import Counter
 
-from recording import GRANTED, Look, Peek, Reserve, Ring, Submit
+from recording import GRANTED, METADATA, Look, Peek, Reserve, Ring, Submit
 
 OUTSIDE, WITHIN = "addresses outside of the UMEM", "addresses that aren't the first of a chunk"
 EMPTY, CROSSING, OPTIONS = (f"invalid descriptors ({what})" for what in ("length 0", "across the end of a chunk", "unknown options"))
@@ -22,6 +22,8 @@ def oddity(setting, ring, entry):
         return EMPTY
     if start + entry.length > setting.chunk:
         return CROSSING
+    if setting.metadata and entry.options >= METADATA:
+        entry = entry._replace(options=entry.options - METADATA)
     return None if setting.is_valid(entry) else OPTIONS
 
 

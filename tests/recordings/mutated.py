@@ -105,7 +105,7 @@ def entry(rnd, made_for, ring, frame):
         return Entry(base + (rnd.choice((0, 0, 0, 8)) if ring.kind == "fill" else 0))
     goes_on = 1 if made_for.sg and rnd.random() < 0.3 else 0
     if ring.kind == "tx":
-        return Entry(base + rnd.choice((0, made_for.headroom + RESERVED)), rnd.choice((1, 1, 1, 1, 0)), goes_on if rnd.random() < 0.95 else 2)
+        return Entry(base + rnd.choice((0, made_for.headroom + RESERVED)), rnd.choice((1, 1, 1, 1, 0)), goes_on if rnd.random() < 0.95 else rnd.choice((2, 3, 4)))
     if made_for.data or rnd.random() < 0.7:
         return Entry(made_for.data_of(frame), made_for.payload if goes_on else rnd.randint(1, made_for.payload), goes_on)
     start = rnd.randrange(made_for.chunk)

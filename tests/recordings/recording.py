@@ -9,7 +9,7 @@ MOST = 1 << 20  # frames, and places of a ring
 MOST_ENDS = 64  # pairs, and sockets
 MOST_BYTES = 2048  # of a line, with its line feed
 MOST_ENTRIES = 32  # of a line
-GOES_ON = 1  # XDP_PKT_CONTD
+GOES_ON, METADATA = 1, 2  # XDP_PKT_CONTD, XDP_TX_METADATA
 
 
 class Ring(NamedTuple):
@@ -152,7 +152,7 @@ class Setting:
         self.frames, self.chunk, self.headroom = frames, chunk, headroom
         self.pairs, self.sockets = [tuple(pair) for pair in pairs], [Socket(*socket) for socket in sockets]
         self.switches = frozenset(switches)
-        self.sg, self.own, self.data = ("sg" in switches), ("own" in switches), ("data" in switches)
+        self.sg, self.own, self.data, self.metadata = (word in switches for word in SWITCHES)
         self.size, self.pair = {}, {}
         for number, (fill, comp) in enumerate(self.pairs):
             self._ring(Ring("fill", number), fill, number)

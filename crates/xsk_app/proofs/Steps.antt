@@ -1,15 +1,21 @@
 -- What each call of an application's machine and its wait come to, in the machine's own terms.
-use Rattle.std.proofs.Common.{◌≡◌, ℕ, zero, true, false, ◌<◌, ◌≤◌, Option, Some, None, List, [], length, map, take, drop, refl, sym, ap, ◌∙◌, get_or-set_same}
+use Rattle.std.proofs.Common.{◌≡◌, ℕ, zero, true, false, ◌<◌, ◌≤◌, Option, Some, None, List, [], length, map, take, drop, refl, sym, ap, ◌∙◌, subst, get_or-set_same}
 use Rattle.xsk_turns.proofs.Object.{Frame, Config, pool_of, batch_of, home_item}
 use Rattle.xsk_turns.proofs.Calls.{Item, Fill, Comp, Rx, Tx, Reserve, Submit, Peek, Release, Reply, Granted, Full, Submitted, Items, Empty, Released, Old}
 use Rattle.xsk_model.specs.Expected.{CanCome, submitted, number}
+use Rattle.xsk_model.specs.Object.{taken}
+use Rattle.xsk_model.specs.declared.call.Act.{Act}
+use Rattle.xsk_model.specs.declared.call.Act.TheVariants.{Call as Gave, Ended as HasEnded}
+use Rattle.xsk_model.specs.declared.ask.Ask.{Ask}
 use Rattle.xsk_model.specs.declared.ask.Answer.{Answer}
 use Rattle.xsk_model.specs.declared.ask.Answer.TheVariants.{Granted as Allowed, Full as IsFull, Submitted as Taken, Items as HasItems, Empty as IsEmpty, Released as Freed, Old as Was}
-use Rattle.xsk_turns.specs.Stepping.{joined_answer, IsLent}
-use Rattle.xsk_turns.specs.Script.{ask}
-use Rattle.xsk_turns.specs.AppTurns.{AppKept, AppNoted, rx_of, tx_of, lanes_of, pair_of, pending_at, with_pending, drains, drained, received, awaited_after, cut_after, given_on, passed_on, back_at, with_back, pass_on, receive_lane, give_back}
+use Rattle.xsk_turns.specs.Stepping.{joined_answer, joined_ask, IsLent}
+use Rattle.xsk_turns.specs.Script.{Script, ask, begun}
+use Rattle.xsk_turns.specs.AppTurns.{AppKept, AppNoted, rx_of, tx_of, lanes_of, pair_of, pending_at, with_pending, drains, drained, received, awaited_after, cut_after, given_on, passed_on, back_at, with_back, pass_on, receive_lane, give_back, app_turn}
 use Rattle.xsk_app.specs.Ways.{IsGroup}
-use Rattle.xsk_app.specs.Stands.{from_lane, after_full_lane, from_side, after_full_side, by_reply, left, counted, drain_by}
+use Rattle.xsk_app.specs.Stands.{noted_by, kept_by, from_lane, after_full_lane, from_side, after_full_side, by_reply, left, counted, drain_by, doing, GoesOn, to_do}
+use Rattle.xsk_app.specs.declared.machine.Machine.{Machine}
+use Rattle.xsk_app.specs.declared.machine.Wait.{Wait}
 use Rattle.xsk_app.specs.declared.machine.Wait.TheVariants.{DrainRx, ReleaseDrained, PeekRx, ReleaseRx, SubmitTx, PeekComp, ReserveFill, SubmitFill}
 use Rattle.xsk_turns.proofs.AppGroups.{with_back-same}
 use Rattle.xsk_app.proofs.TurnLemmas.{submit_home, lane_empty, lane_drains, side_empty, give_back_some, give_back_granted}
@@ -105,12 +111,32 @@ number_came (Some (Items items)) came = absurd came
 number_came (Some Empty) came = absurd came
 number_came (Some Released) came = absurd came
 
-pub lent_none : (answer : Option Answer) (items : List Item) → joined_answer answer items ≡ Some Submitted → IsLent answer items → items ≡ []
-lent_none None items e lent = lent
-lent_none (Some Allowed) items e lent = lent
-lent_none (Some (IsFull free)) items e lent = lent
-lent_none (Some Taken) items e lent = lent
-lent_none (Some HasItems) items e lent = absurd (cc)
-lent_none (Some IsEmpty) items e lent = lent
-lent_none (Some Freed) items e lent = lent
-lent_none (Some (Was n)) items e lent = lent
+-- a reply with no items: none are lent
+abbrev items_in : Option Reply → List Item
+items_in None = []
+items_in (Some reply) = taken reply
+
+lent_none : (answer : Option Answer) (items : List Item) (reply : Reply) → joined_answer answer items ≡ Some reply → taken reply ≡ [] → IsLent answer items → items ≡ []
+lent_none None items reply came none lent = lent
+lent_none (Some HasItems) items reply came none lent = ap items_in came ∙ none
+lent_none (Some Allowed) items reply came none lent = lent
+lent_none (Some (IsFull free)) items reply came none lent = lent
+lent_none (Some Taken) items reply came none lent = lent
+lent_none (Some IsEmpty) items reply came none lent = lent
+lent_none (Some Freed) items reply came none lent = lent
+lent_none (Some (Was n)) items reply came none lent = lent
+
+-- then it goes on from its waiting point to a call with none
+pub goes_bare : (old now : Machine) (answer : Option Answer) (items : List Item) (asked : Option Ask) (wait : Wait) (reply : Reply) → old.wait ≡ wait → joined_answer answer items ≡ Some reply → taken reply ≡ []
+    → IsLent answer items → GoesOn old.config.now old.app now (joined_ask asked []) (left old.config.now old.app wait (noted_by old.turn) (kept_by old) reply)
+    → GoesOn old.config.now old.app now (joined_ask asked items) (to_do old.config.now old.app old (joined_answer answer items))
+goes_bare old now answer items asked wait reply at came none lent goes =
+    let c = old.config.now in
+    subst (λ (r : Option Reply). GoesOn c old.app now (joined_ask asked items) (to_do c old.app old r)) (sym came)
+    (subst (λ (xs : List Item). GoesOn c old.app now (joined_ask asked xs) (to_do c old.app old (Some reply))) (sym (lent_none answer items reply came none lent))
+    (subst (λ (w : Wait). GoesOn c old.app now (joined_ask asked []) (left c old.app w (noted_by old.turn) (kept_by old) reply)) (sym at) goes))
+
+-- what it does is begun
+pub goes_begun : (c : Config) (app : ℕ) (now : Machine) (act : Act) (script : Script AppKept) → doing c app now act ≡ script → GoesOn c app now act script
+goes_begun c app now (Gave call) script is = subst (λ (s : Script AppKept). doing c app now (Gave call) ≡ begun (app_turn c app) s) is refl
+goes_begun c app now HasEnded script is = subst (λ (s : Script AppKept). doing c app now HasEnded ≡ begun (app_turn c app) s) is refl

@@ -24,14 +24,3 @@ expects (LookRxDone side) = number
 expects TellTxDone = number
 expects (LookGone side) = number
 expects Ended = ended
-
--- it goes on from there with no items, and gives a call with none
-abbrev pub IsBare : Wait → Type 0
-IsBare Start = Unit {0}
-IsBare (LowerCell socket index) = Unit {0}
-IsBare (TellClosing socket) = Unit {0}
-IsBare (ReleaseRx lane) = Unit {0}
-IsBare (LookRxDone side) = Unit {0}
-IsBare TellTxDone = Unit {0}
-IsBare (LookGone side) = Unit {0}
-IsBare _ = ⊥

@@ -1,4 +1,5 @@
-//! The frames that an application has to give back to FILL.
+//! The frames that an application has to give back to FILL. It holds as many frames as a UMEM has, so no call takes
+//! memory (the invariant).
 ghost use Rattle.std.specs.Prelude.{◌≡◌, ◌==◌, ◌<◌, ◌≤◌, [], ◌++◌, ◌↔◌, IsTrue, IfOk, IsNone, IfSome, length, map, take, drop};
 ghost use Rattle.std.specs.List.{take_while};
 ghost use Rattle.xsk_umem.specs.Limits.{most_frames};

@@ -6,28 +6,24 @@ ghost use Rattle.xsk_umem.specs.Limits.{most_frames};
 ghost use Rattle.xsk_model.specs.Config.{classes_of, map_of, IsRegular};
 ghost use Rattle.xsk_model.specs.Marks.{apps_of};
 ghost use Rattle.xsk_model.specs.Rings.{port_of};
-ghost use Rattle.xsk_model.specs.Asks.{joined_call};
-ghost use Rattle.xsk_model.specs.Expected.{CanCome, expected_by, expected_of};
-ghost use Rattle.xsk_model.specs.declared.call.Act.TheVariants as act;
 ghost use Rattle.xsk_model.specs.declared.call.Ring.TheVariants as ring;
 ghost use Rattle.xsk_model.specs.declared.call.Reply.TheVariants as reply;
 ghost use Rattle.xsk_turns.specs.AppTurns.{shut_of, is_none, is_cut};
 ghost use Rattle.xsk_turns.specs.Turns.{frames_in};
-ghost use Rattle.xsk_turns.specs.Stepping.{joined_ask, joined_answer, IsGivenBack, IsLent};
+ghost use Rattle.xsk_turns.specs.Stepping.{joined_ask};
 ghost use Rattle.xsk_app.specs.Ways.{socket_in, first_cell};
 
 use crate::back::Back;
 use crate::kept::side_pair;
 use crate::machine::{Machine, Next, Wait};
-use xsk_model::{Answer, Ask, Config, Mark, Ring};
+use xsk_model::{Ask, Config, Mark, Ring};
 use xsk_umem::Batch;
 
 /// The machine's closing.
 impl<'a> Machine<'a> {
-    ghost use Rattle.xsk_app.specs.Waits.{expects};
-    ghost use Rattle.xsk_app.specs.declared.machine.Wait.TheVariants as wait;
+    ghost use Rattle.xsk_app.specs.Gives.{Gives};
     ghost use Rattle.xsk_turns.specs.AppTurns.{drains, is_closed, may_close, close_first, turn_lanes, end_by, end_turn, look_acked, with_acked, wake_closed, with_begun, pair_of, pending_at, drained};
-    ghost use Rattle.xsk_app.specs.Stands.{GoesOn, to_do, doing, by_reply, IsSame, HasSameRest, noted_by, kept_by, side_by, shut_with, lower_from, from_lane, counted, is_due, drain_by};
+    ghost use Rattle.xsk_app.specs.Stands.{GoesOn, doing, HasSameRest, noted_by, kept_by, side_by, shut_with, lower_from, from_lane, counted, is_due, drain_by};
 
     /// Whether the lane is a closed one, once the socket is closed.
     pub(crate) fn drains(&self, lane: usize) -> bool
@@ -50,11 +46,10 @@ impl<'a> Machine<'a> {
     }
 
     /// Closes the socket where that is due, and begins with the lanes where it isn't.
-    pub(crate) fn begin_closing(&mut self, socket: u32, asked: &mut Ask)
+    pub(crate) fn begin_closing(&mut self, socket: u32, asked: &mut Option<Ask>)
         requires mine { socket_in (shut_of self.old.config.now self.old.app) ≡ Some socket }
-        ensures expected { expects self.new.wait ≡ expected_by (joined_call asked.new []) }
-        ensures goes { GoesOn self.old.config.now self.old.app self.new (act.Call (joined_call asked.new [])) (close_first self.old.config.now self.old.app (Some (shut_with self.old.config.now self.old.app socket)) (kept_by self.old) (turn_lanes self.old.config.now self.old.app)) }
-        ensures same { IsSame self.old self.new }
+        ensures gives { Gives self.old self.new asked.new [] }
+        ensures goes { GoesOn self.old.config.now self.old.app self.new (joined_ask asked.new []) (close_first self.old.config.now self.old.app (Some (shut_with self.old.config.now self.old.app socket)) (kept_by self.old) (turn_lanes self.old.config.now self.old.app)) }
     {
         // The configuration is lawful.
         let _sockets = self.config.sockets();
@@ -110,31 +105,29 @@ impl<'a> Machine<'a> {
     }
 
     /// Lowers the first cell from this one on that held the socket at the opening, and tells that it is closed where there is none.
-    pub(crate) fn lower_from(&mut self, socket: u32, index: u32, asked: &mut Ask)
+    pub(crate) fn lower_from(&mut self, socket: u32, index: u32, asked: &mut Option<Ask>)
         requires known { socket < length self.old.config.now.sockets }
         requires index { index ≤ 64 }
-        ensures expected { expects self.new.wait ≡ expected_by (joined_call asked.new []) }
-        ensures goes { GoesOn self.old.config.now self.old.app self.new (act.Call (joined_call asked.new [])) (lower_from self.old.config.now self.old.app socket index (kept_by self.old)) }
-        ensures same { IsSame self.old self.new }
+        ensures gives { Gives self.old self.new asked.new [] }
+        ensures goes { GoesOn self.old.config.now self.old.app self.new (joined_ask asked.new []) (lower_from self.old.config.now self.old.app socket index (kept_by self.old)) }
     {
         let port = port_of(self.config, socket);
         match first_cell(self.config, port, socket, index) {
             Some(index) => {
                 self.wait = Wait::LowerCell { socket, index };
-                *asked = Ask::Swap(Mark::Cell(port, index), 0);
+                *asked = Some(Ask::Swap(Mark::Cell(port, index), 0));
             }
             None => {
                 self.wait = Wait::TellClosing { socket };
-                *asked = Ask::Swap(Mark::Closing(socket), 1);
+                *asked = Some(Ask::Swap(Mark::Closing(socket), 1));
             }
         }
     }
 
     /// Wakes the socket's driver, where the flags are used, once it told that the socket is closed, and begins with the lanes.
-    pub(crate) fn go_on_closed(&mut self, socket: u32, asked: &mut Ask)
-        ensures expected { expects self.new.wait ≡ expected_by (joined_call asked.new []) }
-        ensures goes { GoesOn self.old.config.now self.old.app self.new (act.Call (joined_call asked.new [])) (wake_closed self.old.config.now (pair_of self.old.config.now self.old.app (side_by self.old.config.now self.old.app socket)) (with_begun (kept_by self.old)) (turn_lanes self.old.config.now self.old.app (with_begun (kept_by self.old)))) }
-        ensures same { IsSame self.old self.new }
+    pub(crate) fn go_on_closed(&mut self, socket: u32, asked: &mut Option<Ask>)
+        ensures gives { Gives self.old self.new asked.new [] }
+        ensures goes { GoesOn self.old.config.now self.old.app self.new (joined_ask asked.new []) (wake_closed self.old.config.now (pair_of self.old.config.now self.old.app (side_by self.old.config.now self.old.app socket)) (with_begun (kept_by self.old)) (turn_lanes self.old.config.now self.old.app (with_begun (kept_by self.old)))) }
     {
         self.begun = true;
         if self.config.wakeup() {
@@ -176,11 +169,10 @@ impl<'a> Machine<'a> {
     }
 
     /// Opens a lane: once the socket is closed, a closed one only to drain it.
-    pub(crate) fn open_lane(&mut self, lane: usize, asked: &mut Ask)
+    pub(crate) fn open_lane(&mut self, lane: usize, asked: &mut Option<Ask>)
         requires { lane < vec_len self.old.pending }
-        ensures expected { expects self.new.wait ≡ expected_by (joined_call asked.new []) }
-        ensures goes { doing self.old.config.now self.old.app self.new (act.Call (joined_call asked.new [])) ≡ from_lane self.old.config.now self.old.app lane (noted_by self.old.turn) (kept_by self.old) }
-        ensures same { IsSame self.old self.new }
+        ensures gives { Gives self.old self.new asked.new [] }
+        ensures goes { doing self.old.config.now self.old.app self.new (joined_ask asked.new []) ≡ from_lane self.old.config.now self.old.app lane (noted_by self.old.turn) (kept_by self.old) }
     {
         if self.drains(lane) {
             self.peek_closed(lane, asked);
@@ -190,47 +182,21 @@ impl<'a> Machine<'a> {
     }
 
     /// Peeks a closed lane's RX ring.
-    pub(crate) fn peek_closed(&mut self, lane: usize, asked: &mut Ask)
+    pub(crate) fn peek_closed(&mut self, lane: usize, asked: &mut Option<Ask>)
         requires lane { lane < vec_len self.old.pending }
         requires closed { drains self.old.config.now self.old.app lane (kept_by self.old) ≡ true }
-        ensures expected { expects self.new.wait ≡ expected_by (joined_call asked.new []) }
-        ensures goes { doing self.old.config.now self.old.app self.new (act.Call (joined_call asked.new [])) ≡ from_lane self.old.config.now self.old.app lane (noted_by self.old.turn) (kept_by self.old) }
-        ensures same { IsSame self.old self.new }
+        ensures gives { Gives self.old self.new asked.new [] }
+        ensures goes { doing self.old.config.now self.old.app self.new (joined_ask asked.new []) ≡ from_lane self.old.config.now self.old.app lane (noted_by self.old.turn) (kept_by self.old) }
     {
         self.wait = Wait::DrainRx { lane };
-        *asked = Ask::Peek(Ring::Rx(self.ways[lane].rx), self.batch);
-    }
-
-    /// Goes on with what stood on a closed lane's RX ring.
-    pub(crate) fn go_on_from_closed(
-        &mut self,
-        lane: usize,
-        answer: Option<Answer>,
-        items: &mut Batch,
-        asked: &mut Option<Ask>,
-    )
-        requires at { self.old.wait ≡ wait.DrainRx lane }
-        requires comes { CanCome (expects self.old.wait) (joined_answer answer items.old) }
-        requires lent { IsLent answer items.old }
-        ensures expected { expects self.new.wait ≡ expected_of (joined_ask asked.new items.new) }
-        ensures goes { GoesOn self.old.config.now self.old.app self.new (joined_ask asked.new items.new) (to_do self.old.config.now self.old.app self.old (joined_answer answer items.old)) }
-        ensures same { IsSame self.old self.new }
-        ensures given_back { IsGivenBack asked.new items.new }
-    {
-        match answer {
-            Some(Answer::Items) => self.take_drained(lane, items, asked),
-            Some(Answer::Empty) => self.go_to_lane(lane + 1, asked),
-            _ => unreachable!(),
-        }
+        *asked = Some(Ask::Peek(Ring::Rx(self.ways[lane].rx), self.batch));
     }
 
     /// Keeps the frames of the items that stood there with those that go back.
-    fn take_drained(&mut self, lane: usize, items: &mut Batch, asked: &mut Option<Ask>)
+    pub(crate) fn take_drained(&mut self, lane: usize, items: &mut Batch, asked: &mut Option<Ask>)
         requires lane { lane < vec_len self.old.pending }
-        ensures expected { expects self.new.wait ≡ expected_of (joined_ask asked.new items.new) }
+        ensures gives { Gives self.old self.new asked.new items.new }
         ensures goes { doing self.old.config.now self.old.app self.new (joined_ask asked.new items.new) ≡ drain_by self.old.config.now self.old.app lane (noted_by self.old.turn) (kept_by self.old) (reply.Items items.old) }
-        ensures same { IsSame self.old self.new }
-        ensures given_back { IsGivenBack asked.new items.new }
     {
         let count = items.len();
         let way = self.ways[lane];
@@ -241,9 +207,8 @@ impl<'a> Machine<'a> {
 
     /// Ends a turn, where it has closed a socket with a look whether that is acknowledged before.
     pub(crate) fn end_turn(&mut self, asked: &mut Option<Ask>)
-        ensures expected { expects self.new.wait ≡ expected_of (joined_ask asked.new []) }
+        ensures gives { Gives self.old self.new asked.new [] }
         ensures goes { GoesOn self.old.config.now self.old.app self.new (joined_ask asked.new []) (end_turn self.old.config.now self.old.app (noted_by self.old.turn) (kept_by self.old)) }
-        ensures same { IsSame self.old self.new }
     {
         match self.shut {
             Some(socket) => self.look_acked(socket, asked),
@@ -253,9 +218,8 @@ impl<'a> Machine<'a> {
 
     /// Looks whether the driver has acknowledged the closing, until it has.
     pub(crate) fn look_acked(&mut self, socket: u32, asked: &mut Option<Ask>)
-        ensures expected { expects self.new.wait ≡ expected_of (joined_ask asked.new []) }
+        ensures gives { Gives self.old self.new asked.new [] }
         ensures goes { GoesOn self.old.config.now self.old.app self.new (joined_ask asked.new []) (look_acked (Some (shut_with self.old.config.now self.old.app socket)) (kept_by self.old) (end_by self.old.config.now self.old.app (noted_by self.old.turn))) }
-        ensures same { IsSame self.old self.new }
     {
         if self.begun && !self.acked {
             self.wait = Wait::LookAcked;
@@ -266,9 +230,8 @@ impl<'a> Machine<'a> {
     }
 
     pub(crate) fn learn_acked(&mut self, acked: u64, asked: &mut Option<Ask>)
-        ensures expected { expects self.new.wait ≡ expected_of (joined_ask asked.new []) }
+        ensures gives { Gives self.old self.new asked.new [] }
         ensures goes { GoesOn self.old.config.now self.old.app self.new (joined_ask asked.new []) (end_by self.old.config.now self.old.app (noted_by self.old.turn) (with_acked (kept_by self.old) acked)) }
-        ensures same { IsSame self.old self.new }
     {
         self.acked = acked == 1;
         self.end_by_facts(asked);

@@ -1,4 +1,6 @@
-//! The application's machine: it makes one call, waits for the reply, and goes on by it.
+//! The application's machine: it makes one call, waits for the reply, and goes on by it. A call is given where the
+//! script has it (`xsk_turns/specs/AppTurns`), so a new one is written there first; that code and script agree is said
+//! in `specs/Stands` and `specs/Runs`.
 //!
 //! ```text
 //! close  LowerCell ──> TellClosing ──> lanes                       cell by cell, where the socket is to be closed, once
@@ -24,9 +26,7 @@
 ghost use Rattle.std.specs.Prelude.{Some, None, false, ◌≡◌, ◌≢◌, ℕ, ◌+◌, ◌-◌, ◌<◌, ◌≤◌, [], ◌∷◌, IfSome, length, vec_len, map, take, drop};
 ghost use Rattle.xsk_model.specs.Config.{batch_of, classes_of, pool_of};
 ghost use Rattle.xsk_model.specs.Marks.{apps_of};
-ghost use Rattle.xsk_model.specs.Asks.{joined_call, HasAsked};
-ghost use Rattle.xsk_model.specs.Expected.{CanCome, expected_by, expected_of};
-ghost use Rattle.xsk_model.specs.declared.call.Act.TheVariants as act;
+ghost use Rattle.xsk_model.specs.Expected.{CanCome, expected_of};
 ghost use Rattle.xsk_model.specs.declared.call.Mark.TheVariants as mark;
 ghost use Rattle.xsk_model.specs.declared.call.Reply.TheVariants as reply;
 ghost use Rattle.xsk_turns.specs.AppTurns.{lanes_of, pair_of, shut_of};
@@ -40,9 +40,6 @@ use xsk_umem::Batch;
 
 /// The sides of the application: its two ports.
 pub(crate) const SIDES: usize = 2;
-
-/// What stands in the place of the next call where none was written there before.
-const UNASKED: Ask = Ask::Look(Mark::TxDone(0));
 
 /// Where it goes on behind a wake: behind a lane that had packets, with the next frames of a side, with the wake of the second
 /// driver, with the lanes, or with the next turn.
@@ -149,8 +146,8 @@ pub(crate) struct Machine<'a> {
 }
 
 impl<'a> Machine<'a> {
-    ghost use Rattle.xsk_app.specs.Waits.{expects, IsBare};
-    ghost use Rattle.xsk_app.specs.declared.machine.Wait.TheVariants as wait;
+    ghost use Rattle.xsk_app.specs.Waits.{expects};
+    ghost use Rattle.xsk_app.specs.Gives.{Gives};
     ghost use Rattle.xsk_turns.specs.AppTurns.{tx_of, tx_pair, kick, wake, wake_both, pass_on, receive_lane, visit_lane, visit_lanes, noted_first, turn_lanes, end_by, drains, give_back, complete_side, visit_side, back_at, pending_at, with_back, with_seen, with_gone, look_rx_done, look_gone, tell_tx_done, end_or_look, turn_sides};
     ghost use Rattle.xsk_app.specs.Stands.{GoesOn, to_do, doing, by_reply, IsSame, HasSameRest, noted_by, kept_by, from_lane, after_full_lane, from_side, after_full_side, after_group, after, wake_by, told_tx_done};
     ghost use Rattle.xsk_turns.specs.Script.{again};
@@ -171,167 +168,52 @@ impl<'a> Machine<'a> {
         ensures same { IsSame self.old self.new }
         ensures given_back { IsGivenBack asked.new items.new }
     {
-        match self.wait {
-            Wait::DrainRx { lane } => self.go_on_from_closed(lane, answer, items, asked),
-            Wait::ReleaseDrained { lane } => self.go_on_full_lane(lane, asked),
-            Wait::PeekRx { lane } => self.go_on_from_rx(lane, answer, items, asked),
-            Wait::ReserveTx { lane } => self.go_on_at_tx(lane, answer, items, asked),
-            Wait::SubmitTx { lane } => self.wake_lane(lane, asked),
-            Wait::PeekComp { side } => self.go_on_from_comp(side, answer, items, asked),
-            Wait::ReleaseComp { side } => self.give_back(side, asked),
-            Wait::ReserveFill { side, home, count } => {
-                self.go_on_at_fill(side, home, count, answer, items, asked);
+        match (self.wait, answer) {
+            (Wait::Start, _) => self.begin(asked),
+            (Wait::LowerCell { socket, index }, _) => self.lower_from(socket, index + 1, asked),
+            (Wait::TellClosing { socket }, _) => self.go_on_closed(socket, asked),
+            (Wait::DrainRx { lane }, Some(Answer::Items)) => self.take_drained(lane, items, asked),
+            (Wait::DrainRx { lane }, _) => self.go_to_lane(lane + 1, asked),
+            (Wait::ReleaseDrained { lane }, _) => self.go_on_full_lane(lane, asked),
+            (Wait::PeekRx { lane }, Some(Answer::Items)) => self.take_received(lane, items, asked),
+            (Wait::PeekRx { lane }, _) => self.go_to_lane(lane + 1, asked),
+            (Wait::ReleaseRx { lane }, _) => self.reserve_tx(lane, asked),
+            (Wait::ReserveTx { lane }, Some(Answer::Granted)) => self.send_on(lane, items, asked),
+            (Wait::ReserveTx { lane }, _) => self.go_on_full_lane(lane, asked),
+            (Wait::SubmitTx { lane }, _) => self.wake_lane(lane, asked),
+            (Wait::PeekComp { side }, Some(Answer::Items)) => {
+                self.take_completed(side, items, asked);
             }
-            Wait::SubmitFill { side, home } => {
+            (Wait::PeekComp { side }, _) => self.go_to_side(side + 1, asked),
+            (Wait::ReleaseComp { side }, _) => self.give_back(side, asked),
+            (Wait::ReserveFill { side, home, count }, Some(Answer::Granted)) => {
+                self.refill(side, home, count, items, asked);
+            }
+            (Wait::ReserveFill { side, .. }, _) => self.find_fill_full(side, asked),
+            (Wait::SubmitFill { side, home }, _) => {
                 self.wake(Mark::NeedFill(home), home, Next::Side { side }, asked);
             }
-            Wait::LookNeed { pair, next } => match answer {
-                Some(Answer::Old(need)) => self.learn_need(pair, next, need, asked),
-                _ => unreachable!(),
-            },
-            Wait::Kick { next } => self.go_on_behind(next, asked),
-            Wait::LookAcked => match answer {
-                Some(Answer::Old(acked)) => self.learn_acked(acked, asked),
-                _ => unreachable!(),
-            },
-            Wait::Start
-            | Wait::LowerCell { .. }
-            | Wait::TellClosing { .. }
-            | Wait::ReleaseRx { .. }
-            | Wait::LookRxDone { .. }
-            | Wait::TellTxDone
-            | Wait::LookGone { .. } => self.go_on_bare(answer, asked.get_or_insert(UNASKED)),
-            Wait::Ended => unreachable!(),
-        }
-    }
-
-    /// Goes on from a waiting point with no items to a call with none.
-    #[inline(always)]
-    fn go_on_bare(&mut self, answer: Option<Answer>, asked: &mut Ask)
-        requires bare { IsBare self.old.wait }
-        requires comes { CanCome (expects self.old.wait) (joined_answer answer []) }
-        ensures expected { expects self.new.wait ≡ expected_by (joined_call asked.new []) }
-        ensures goes { GoesOn self.old.config.now self.old.app self.new (act.Call (joined_call asked.new [])) (to_do self.old.config.now self.old.app self.old (joined_answer answer [])) }
-        ensures same { IsSame self.old self.new }
-    {
-        match self.wait {
-            Wait::Start => self.begin(asked),
-            Wait::LowerCell { socket, index } => self.lower_from(socket, index + 1, asked),
-            Wait::TellClosing { socket } => self.go_on_closed(socket, asked),
-            Wait::ReleaseRx { lane } => self.reserve_tx(lane, asked),
-            Wait::LookRxDone { side } => match answer {
-                Some(Answer::Old(done)) => self.learn_rx_done(side, done, asked),
-                _ => unreachable!(),
-            },
-            Wait::TellTxDone => self.stop_sending(asked),
-            Wait::LookGone { side } => match answer {
-                Some(Answer::Old(gone)) => self.learn_gone(side, gone, asked),
-                _ => unreachable!(),
-            },
-            _ => unreachable!(),
-        }
-    }
-
-    /// Goes on with what stood on the lane's RX ring.
-    fn go_on_from_rx(
-        &mut self,
-        lane: usize,
-        answer: Option<Answer>,
-        items: &mut Batch,
-        asked: &mut Option<Ask>,
-    )
-        requires at { self.old.wait ≡ wait.PeekRx lane }
-        requires comes { CanCome (expects self.old.wait) (joined_answer answer items.old) }
-        requires lent { IsLent answer items.old }
-        ensures expected { expects self.new.wait ≡ expected_of (joined_ask asked.new items.new) }
-        ensures goes { GoesOn self.old.config.now self.old.app self.new (joined_ask asked.new items.new) (to_do self.old.config.now self.old.app self.old (joined_answer answer items.old)) }
-        ensures same { IsSame self.old self.new }
-        ensures given_back { IsGivenBack asked.new items.new }
-    {
-        match answer {
-            Some(Answer::Items) => self.take_received(lane, items, asked),
-            Some(Answer::Empty) => self.go_to_lane(lane + 1, asked),
-            _ => unreachable!(),
-        }
-    }
-
-    /// Goes on by whether the lane's TX ring has room.
-    fn go_on_at_tx(
-        &mut self,
-        lane: usize,
-        answer: Option<Answer>,
-        items: &mut Batch,
-        asked: &mut Option<Ask>,
-    )
-        requires at { self.old.wait ≡ wait.ReserveTx lane }
-        requires comes { CanCome (expects self.old.wait) (joined_answer answer items.old) }
-        requires lent { IsLent answer items.old }
-        ensures expected { expects self.new.wait ≡ expected_of (joined_ask asked.new items.new) }
-        ensures goes { GoesOn self.old.config.now self.old.app self.new (joined_ask asked.new items.new) (to_do self.old.config.now self.old.app self.old (joined_answer answer items.old)) }
-        ensures same { IsSame self.old self.new }
-        ensures given_back { IsGivenBack asked.new items.new }
-    {
-        match answer {
-            Some(Answer::Granted) => self.send_on(lane, items, asked),
-            Some(Answer::Full(_)) => self.go_on_full_lane(lane, asked),
-            _ => unreachable!(),
-        }
-    }
-
-    /// Goes on with what stood on the side's COMPLETION ring.
-    fn go_on_from_comp(
-        &mut self,
-        side: usize,
-        answer: Option<Answer>,
-        items: &mut Batch,
-        asked: &mut Option<Ask>,
-    )
-        requires at { self.old.wait ≡ wait.PeekComp side }
-        requires comes { CanCome (expects self.old.wait) (joined_answer answer items.old) }
-        requires lent { IsLent answer items.old }
-        ensures expected { expects self.new.wait ≡ expected_of (joined_ask asked.new items.new) }
-        ensures goes { GoesOn self.old.config.now self.old.app self.new (joined_ask asked.new items.new) (to_do self.old.config.now self.old.app self.old (joined_answer answer items.old)) }
-        ensures same { IsSame self.old self.new }
-        ensures given_back { IsGivenBack asked.new items.new }
-    {
-        match answer {
-            Some(Answer::Items) => self.take_completed(side, items, asked),
-            Some(Answer::Empty) => self.go_to_side(side + 1, asked),
-            _ => unreachable!(),
-        }
-    }
-
-    /// Goes on by whether the home's FILL ring has room.
-    fn go_on_at_fill(
-        &mut self,
-        side: usize,
-        home: u32,
-        count: u32,
-        answer: Option<Answer>,
-        items: &mut Batch,
-        asked: &mut Option<Ask>,
-    )
-        requires at { self.old.wait ≡ wait.ReserveFill side home count }
-        requires comes { CanCome (expects self.old.wait) (joined_answer answer items.old) }
-        requires lent { IsLent answer items.old }
-        ensures expected { expects self.new.wait ≡ expected_of (joined_ask asked.new items.new) }
-        ensures goes { GoesOn self.old.config.now self.old.app self.new (joined_ask asked.new items.new) (to_do self.old.config.now self.old.app self.old (joined_answer answer items.old)) }
-        ensures same { IsSame self.old self.new }
-        ensures given_back { IsGivenBack asked.new items.new }
-    {
-        match answer {
-            Some(Answer::Granted) => self.refill(side, home, count, items, asked),
-            Some(Answer::Full(_)) => self.find_fill_full(side, asked),
+            (Wait::LookNeed { pair, next }, Some(Answer::Old(need))) => {
+                self.learn_need(pair, next, need, asked);
+            }
+            (Wait::Kick { next }, _) => self.go_on_behind(next, asked),
+            (Wait::LookAcked, Some(Answer::Old(acked))) => self.learn_acked(acked, asked),
+            (Wait::LookRxDone { side }, Some(Answer::Old(done))) => {
+                self.learn_rx_done(side, done, asked);
+            }
+            (Wait::TellTxDone, _) => self.stop_sending(asked),
+            (Wait::LookGone { side }, Some(Answer::Old(gone))) => {
+                self.learn_gone(side, gone, asked);
+            }
             _ => unreachable!(),
         }
     }
 
     /// Begins a turn: with the first side where nothing more is sent, and else with the first lane, before which the socket is
     /// closed where that is due.
-    pub(crate) fn begin(&mut self, asked: &mut Ask)
-        ensures expected { expects self.new.wait ≡ expected_by (joined_call asked.new []) }
-        ensures goes { GoesOn self.old.config.now self.old.app self.new (act.Call (joined_call asked.new [])) (again (kept_by self.old)) }
-        ensures same { IsSame self.old self.new }
+    pub(crate) fn begin(&mut self, asked: &mut Option<Ask>)
+        ensures gives { Gives self.old self.new asked.new [] }
+        ensures goes { GoesOn self.old.config.now self.old.app self.new (joined_ask asked.new []) (again (kept_by self.old)) }
     {
         if self.tx_done {
             self.begin_sides(asked);
@@ -356,47 +238,44 @@ impl<'a> Machine<'a> {
         }
     }
 
-    fn begin_sides(&mut self, asked: &mut Ask)
-        ensures expected { expects self.new.wait ≡ expected_by (joined_call asked.new []) }
-        ensures goes { doing self.old.config.now self.old.app self.new (act.Call (joined_call asked.new [])) ≡ turn_sides self.old.config.now self.old.app (noted_first (kept_by self.old)) (kept_by self.old) }
-        ensures same { IsSame self.old self.new }
+    fn begin_sides(&mut self, asked: &mut Option<Ask>)
+        ensures gives { Gives self.old self.new asked.new [] }
+        ensures goes { doing self.old.config.now self.old.app self.new (joined_ask asked.new []) ≡ turn_sides self.old.config.now self.old.app (noted_first (kept_by self.old)) (kept_by self.old) }
     {
         self.turn = self.first_turn();
         self.open_side(0, asked);
     }
 
-    pub(crate) fn begin_lanes(&mut self, asked: &mut Ask)
-        ensures expected { expects self.new.wait ≡ expected_by (joined_call asked.new []) }
-        ensures goes { GoesOn self.old.config.now self.old.app self.new (act.Call (joined_call asked.new [])) (turn_lanes self.old.config.now self.old.app (kept_by self.old)) }
-        ensures same { IsSame self.old self.new }
+    pub(crate) fn begin_lanes(&mut self, asked: &mut Option<Ask>)
+        ensures gives { Gives self.old self.new asked.new [] }
+        ensures goes { GoesOn self.old.config.now self.old.app self.new (joined_ask asked.new []) (turn_lanes self.old.config.now self.old.app (kept_by self.old)) }
     {
         self.turn = self.first_turn();
         self.open_lane(0, asked);
     }
 
     /// Peeks the lane's RX ring, or asks for places on its TX ring where packets are pending.
-    pub(crate) fn visit_lane(&mut self, lane: usize, asked: &mut Ask)
+    pub(crate) fn visit_lane(&mut self, lane: usize, asked: &mut Option<Ask>)
         requires lane { lane < vec_len self.old.pending }
         requires other { drains self.old.config.now self.old.app lane (kept_by self.old) ≡ false }
-        ensures expected { expects self.new.wait ≡ expected_by (joined_call asked.new []) }
-        ensures goes { doing self.old.config.now self.old.app self.new (act.Call (joined_call asked.new [])) ≡ from_lane self.old.config.now self.old.app lane (noted_by self.old.turn) (kept_by self.old) }
-        ensures same { IsSame self.old self.new }
+        ensures gives { Gives self.old self.new asked.new [] }
+        ensures goes { doing self.old.config.now self.old.app self.new (joined_ask asked.new []) ≡ from_lane self.old.config.now self.old.app lane (noted_by self.old.turn) (kept_by self.old) }
     {
         if self.pending[lane].is_empty() {
             self.wait = Wait::PeekRx { lane };
-            *asked = Ask::Peek(Ring::Rx(self.ways[lane].rx), self.batch);
+            *asked = Some(Ask::Peek(Ring::Rx(self.ways[lane].rx), self.batch));
         } else {
             self.reserve_tx(lane, asked);
         }
     }
 
+    #[tactic(auto, using(crate::proofs::Steps::goes_begun))]
     pub(crate) fn go_to_lane(&mut self, lane: usize, asked: &mut Option<Ask>)
-        ensures expected { expects self.new.wait ≡ expected_of (joined_ask asked.new []) }
+        ensures gives { Gives self.old self.new asked.new [] }
         ensures goes { GoesOn self.old.config.now self.old.app self.new (joined_ask asked.new []) (from_lane self.old.config.now self.old.app lane (noted_by self.old.turn) (kept_by self.old)) }
-        ensures same { IsSame self.old self.new }
     {
         if lane < self.pending.len() {
-            self.open_lane(lane, asked.get_or_insert(UNASKED));
+            self.open_lane(lane, asked);
         } else {
             self.go_to_side(0, asked);
         }
@@ -405,9 +284,8 @@ impl<'a> Machine<'a> {
     /// Goes on behind a lane that had packets.
     pub(crate) fn go_on_full_lane(&mut self, lane: usize, asked: &mut Option<Ask>)
         requires { lane < vec_len self.old.pending }
-        ensures expected { expects self.new.wait ≡ expected_of (joined_ask asked.new []) }
+        ensures gives { Gives self.old self.new asked.new [] }
         ensures goes { GoesOn self.old.config.now self.old.app self.new (joined_ask asked.new []) (after_full_lane self.old.config.now self.old.app lane (noted_by self.old.turn) (kept_by self.old)) }
-        ensures same { IsSame self.old self.new }
     {
         self.turn.lanes_empty = false;
         self.go_to_lane(lane + 1, asked);
@@ -417,10 +295,8 @@ impl<'a> Machine<'a> {
     fn take_received(&mut self, lane: usize, items: &mut Batch, asked: &mut Option<Ask>)
         requires lane { lane < vec_len self.old.pending }
         requires empty { pending_at (kept_by self.old) lane ≡ [] }
-        ensures expected { expects self.new.wait ≡ expected_of (joined_ask asked.new items.new) }
+        ensures gives { Gives self.old self.new asked.new items.new }
         ensures goes { doing self.old.config.now self.old.app self.new (joined_ask asked.new items.new) ≡ receive_lane self.old.config.now self.old.app lane (kept_by self.old) (after_full_lane self.old.config.now self.old.app lane (noted_by self.old.turn)) items.old }
-        ensures same { IsSame self.old self.new }
-        ensures given_back { IsGivenBack asked.new items.new }
     {
         let count = items.len();
         let rx = self.ways[lane].rx;
@@ -431,24 +307,21 @@ impl<'a> Machine<'a> {
     }
 
     /// Asks for places on the lane's TX ring.
-    fn reserve_tx(&mut self, lane: usize, asked: &mut Ask)
+    fn reserve_tx(&mut self, lane: usize, asked: &mut Option<Ask>)
         requires { lane < vec_len self.old.pending }
-        ensures expected { expects self.new.wait ≡ expected_by (joined_call asked.new []) }
-        ensures goes { doing self.old.config.now self.old.app self.new (act.Call (joined_call asked.new [])) ≡ pass_on self.old.config.now self.old.app lane (kept_by self.old) (after_full_lane self.old.config.now self.old.app lane (noted_by self.old.turn)) }
-        ensures same { IsSame self.old self.new }
+        ensures gives { Gives self.old self.new asked.new [] }
+        ensures goes { doing self.old.config.now self.old.app self.new (joined_ask asked.new []) ≡ pass_on self.old.config.now self.old.app lane (kept_by self.old) (after_full_lane self.old.config.now self.old.app lane (noted_by self.old.turn)) }
     {
         self.wait = Wait::ReserveTx { lane };
-        *asked = Ask::Reserve(Ring::Tx(self.ways[lane].tx), self.pending[lane].len());
+        *asked = Some(Ask::Reserve(Ring::Tx(self.ways[lane].tx), self.pending[lane].len()));
     }
 
     /// Puts the lane's pending items on its TX ring as they are, or as its manner changes them.
     fn send_on(&mut self, lane: usize, items: &mut Batch, asked: &mut Option<Ask>)
         requires lane { lane < vec_len self.old.pending }
         requires empty { items.old ≡ [] }
-        ensures expected { expects self.new.wait ≡ expected_of (joined_ask asked.new items.new) }
+        ensures gives { Gives self.old self.new asked.new items.new }
         ensures goes { doing self.old.config.now self.old.app self.new (joined_ask asked.new items.new) ≡ by_reply (pass_on self.old.config.now self.old.app lane (kept_by self.old) (after_full_lane self.old.config.now self.old.app lane (noted_by self.old.turn))) reply.Granted }
-        ensures same { IsSame self.old self.new }
-        ensures given_back { IsGivenBack asked.new items.new }
     {
         let tx = self.ways[lane].tx;
         self.wait = Wait::SubmitTx { lane };
@@ -459,9 +332,8 @@ impl<'a> Machine<'a> {
     /// Wakes the driver of the lane's TX ring.
     fn wake_lane(&mut self, lane: usize, asked: &mut Option<Ask>)
         requires { lane < vec_len self.old.pending }
-        ensures expected { expects self.new.wait ≡ expected_of (joined_ask asked.new []) }
+        ensures gives { Gives self.old self.new asked.new [] }
         ensures goes { GoesOn self.old.config.now self.old.app self.new (joined_ask asked.new []) (wake self.old.config.now (mark.NeedTx (tx_of self.old.config.now self.old.app lane)) (tx_pair self.old.config.now self.old.app lane) (kept_by self.old) (after_full_lane self.old.config.now self.old.app lane (noted_by self.old.turn) (kept_by self.old))) }
-        ensures same { IsSame self.old self.new }
     {
         let way = self.ways[lane];
         self.wake(Mark::NeedTx(way.tx), way.pair, Next::Lane { lane }, asked);
@@ -470,9 +342,8 @@ impl<'a> Machine<'a> {
     /// Looks at a ring's flag, where the flags are used, to wake the pair's driver.
     fn wake(&mut self, need: Mark, pair: u32, next: Next, asked: &mut Option<Ask>)
         requires { CanGoOn self.old.pending.items next }
-        ensures expected { expects self.new.wait ≡ expected_of (joined_ask asked.new []) }
+        ensures gives { Gives self.old self.new asked.new [] }
         ensures goes { GoesOn self.old.config.now self.old.app self.new (joined_ask asked.new []) (wake self.old.config.now need pair (kept_by self.old) (after self.old.config.now self.old.app next (noted_by self.old.turn) (kept_by self.old))) }
-        ensures same { IsSame self.old self.new }
     {
         if self.config.wakeup() {
             self.wait = Wait::LookNeed { pair, next };
@@ -485,67 +356,63 @@ impl<'a> Machine<'a> {
     /// Wakes the pair's driver where the ring's flag is set.
     fn learn_need(&mut self, pair: u32, next: Next, need: u64, asked: &mut Option<Ask>)
         requires { CanGoOn self.old.pending.items next }
-        ensures expected { expects self.new.wait ≡ expected_of (joined_ask asked.new []) }
+        ensures gives { Gives self.old self.new asked.new [] }
         ensures goes { GoesOn self.old.config.now self.old.app self.new (joined_ask asked.new []) (wake_by pair (kept_by self.old) (after self.old.config.now self.old.app next (noted_by self.old.turn) (kept_by self.old)) need) }
-        ensures same { IsSame self.old self.new }
     {
         if need == 1 {
-            self.kick(pair, next, asked.get_or_insert(UNASKED));
+            self.kick(pair, next, asked);
         } else {
             self.go_on_behind(next, asked);
         }
     }
 
     /// Wakes the pair's driver.
-    pub(crate) fn kick(&mut self, pair: u32, next: Next, asked: &mut Ask)
+    pub(crate) fn kick(&mut self, pair: u32, next: Next, asked: &mut Option<Ask>)
         requires { CanGoOn self.old.pending.items next }
-        ensures expected { expects self.new.wait ≡ expected_by (joined_call asked.new []) }
-        ensures goes { GoesOn self.old.config.now self.old.app self.new (act.Call (joined_call asked.new [])) (kick pair (kept_by self.old) (after self.old.config.now self.old.app next (noted_by self.old.turn) (kept_by self.old))) }
-        ensures same { IsSame self.old self.new }
+        ensures gives { Gives self.old self.new asked.new [] }
+        ensures goes { GoesOn self.old.config.now self.old.app self.new (joined_ask asked.new []) (kick pair (kept_by self.old) (after self.old.config.now self.old.app next (noted_by self.old.turn) (kept_by self.old))) }
     {
         self.wait = Wait::Kick { next };
-        *asked = Ask::Swap(Mark::Kick(pair), 1);
+        *asked = Some(Ask::Swap(Mark::Kick(pair), 1));
     }
 
     /// Goes on behind a wake.
     fn go_on_behind(&mut self, next: Next, asked: &mut Option<Ask>)
         requires { CanGoOn self.old.pending.items next }
-        ensures expected { expects self.new.wait ≡ expected_of (joined_ask asked.new []) }
+        ensures gives { Gives self.old self.new asked.new [] }
         ensures goes { GoesOn self.old.config.now self.old.app self.new (joined_ask asked.new []) (after self.old.config.now self.old.app next (noted_by self.old.turn) (kept_by self.old)) }
-        ensures same { IsSame self.old self.new }
     {
         match next {
             Next::Lane { lane } => self.go_on_full_lane(lane, asked),
             Next::Side { side } => self.give_back(side, asked),
-            Next::Second => self.kick(self.pairs[1], Next::Turn, asked.get_or_insert(UNASKED)),
-            Next::Lanes => self.begin_lanes(asked.get_or_insert(UNASKED)),
-            Next::Turn => self.begin(asked.get_or_insert(UNASKED)),
+            Next::Second => self.kick(self.pairs[1], Next::Turn, asked),
+            Next::Lanes => self.begin_lanes(asked),
+            Next::Turn => self.begin(asked),
         }
     }
 
     /// Peeks the side's COMPLETION ring, or gives back the frames that it has.
-    fn open_side(&mut self, side: usize, asked: &mut Ask)
+    fn open_side(&mut self, side: usize, asked: &mut Option<Ask>)
         requires { side < 2 }
-        ensures expected { expects self.new.wait ≡ expected_by (joined_call asked.new []) }
-        ensures goes { doing self.old.config.now self.old.app self.new (act.Call (joined_call asked.new [])) ≡ from_side self.old.config.now self.old.app side (noted_by self.old.turn) (kept_by self.old) }
-        ensures same { IsSame self.old self.new }
+        ensures gives { Gives self.old self.new asked.new [] }
+        ensures goes { doing self.old.config.now self.old.app self.new (joined_ask asked.new []) ≡ from_side self.old.config.now self.old.app side (noted_by self.old.turn) (kept_by self.old) }
     {
         match self.backs[side].first_group(self.config.pool(), self.batch) {
             Some((home, count)) => self.reserve_fill(side, home, count, asked),
             None => {
                 self.wait = Wait::PeekComp { side };
-                *asked = Ask::Peek(Ring::Comp(self.pairs[side]), self.batch);
+                *asked = Some(Ask::Peek(Ring::Comp(self.pairs[side]), self.batch));
             }
         }
     }
 
+    #[tactic(auto, using(crate::proofs::Steps::goes_begun))]
     fn go_to_side(&mut self, side: usize, asked: &mut Option<Ask>)
-        ensures expected { expects self.new.wait ≡ expected_of (joined_ask asked.new []) }
+        ensures gives { Gives self.old self.new asked.new [] }
         ensures goes { GoesOn self.old.config.now self.old.app self.new (joined_ask asked.new []) (from_side self.old.config.now self.old.app side (noted_by self.old.turn) (kept_by self.old)) }
-        ensures same { IsSame self.old self.new }
     {
         if side < SIDES {
-            self.open_side(side, asked.get_or_insert(UNASKED));
+            self.open_side(side, asked);
         } else {
             self.end_turn(asked);
         }
@@ -554,9 +421,8 @@ impl<'a> Machine<'a> {
     /// Goes on behind a side that had frames.
     fn go_on_full_side(&mut self, side: usize, asked: &mut Option<Ask>)
         requires { side < 2 }
-        ensures expected { expects self.new.wait ≡ expected_of (joined_ask asked.new []) }
+        ensures gives { Gives self.old self.new asked.new [] }
         ensures goes { GoesOn self.old.config.now self.old.app self.new (joined_ask asked.new []) (after_full_side self.old.config.now self.old.app side (noted_by self.old.turn) (kept_by self.old)) }
-        ensures same { IsSame self.old self.new }
     {
         self.turn.sides_empty = false;
         self.go_to_side(side + 1, asked);
@@ -566,10 +432,8 @@ impl<'a> Machine<'a> {
     fn take_completed(&mut self, side: usize, items: &mut Batch, asked: &mut Option<Ask>)
         requires side { side < 2 }
         requires empty { back_at (kept_by self.old) side ≡ [] }
-        ensures expected { expects self.new.wait ≡ expected_of (joined_ask asked.new items.new) }
+        ensures gives { Gives self.old self.new asked.new items.new }
         ensures goes { doing self.old.config.now self.old.app self.new (joined_ask asked.new items.new) ≡ complete_side self.old.config.now self.old.app side (kept_by self.old) (after_full_side self.old.config.now self.old.app side (noted_by self.old.turn)) items.old }
-        ensures same { IsSame self.old self.new }
-        ensures given_back { IsGivenBack asked.new items.new }
     {
         let count = items.len();
         self.wait = Wait::ReleaseComp { side };
@@ -578,32 +442,26 @@ impl<'a> Machine<'a> {
     }
 
     /// Gives back the next frames that have one home, or goes on where the side has none.
+    #[tactic(auto, using(crate::proofs::Steps::goes_begun))]
     fn give_back(&mut self, side: usize, asked: &mut Option<Ask>)
         requires { side < 2 }
-        ensures expected { expects self.new.wait ≡ expected_of (joined_ask asked.new []) }
+        ensures gives { Gives self.old self.new asked.new [] }
         ensures goes { GoesOn self.old.config.now self.old.app self.new (joined_ask asked.new []) (after_group self.old.config.now self.old.app side (noted_by self.old.turn) (kept_by self.old)) }
-        ensures same { IsSame self.old self.new }
     {
         match self.backs[side].first_group(self.config.pool(), self.batch) {
-            Some((home, count)) => self.reserve_fill(
-                side,
-                home,
-                count,
-                asked.get_or_insert(UNASKED),
-            ),
+            Some((home, count)) => self.reserve_fill(side, home, count, asked),
             None => self.go_on_full_side(side, asked),
         }
     }
 
-    fn reserve_fill(&mut self, side: usize, home: u32, count: u32, asked: &mut Ask)
+    fn reserve_fill(&mut self, side: usize, home: u32, count: u32, asked: &mut Option<Ask>)
         requires side { side < 2 }
         requires group { IsGroup (pool_of self.old.config.now) (batch_of self.old.config.now) (back_at (kept_by self.old) side) home count }
-        ensures expected { expects self.new.wait ≡ expected_by (joined_call asked.new []) }
-        ensures goes { doing self.old.config.now self.old.app self.new (act.Call (joined_call asked.new [])) ≡ give_back self.old.config.now side 0 (back_at (kept_by self.old) side) (kept_by self.old) (after_full_side self.old.config.now self.old.app side (noted_by self.old.turn)) }
-        ensures same { IsSame self.old self.new }
+        ensures gives { Gives self.old self.new asked.new [] }
+        ensures goes { doing self.old.config.now self.old.app self.new (joined_ask asked.new []) ≡ give_back self.old.config.now side 0 (back_at (kept_by self.old) side) (kept_by self.old) (after_full_side self.old.config.now self.old.app side (noted_by self.old.turn)) }
     {
         self.wait = Wait::ReserveFill { side, home, count };
-        *asked = Ask::Reserve(Ring::Fill(home), count);
+        *asked = Some(Ask::Reserve(Ring::Fill(home), count));
     }
 
     /// Puts the side's first frames on the FILL ring of their home.
@@ -618,10 +476,8 @@ impl<'a> Machine<'a> {
         requires side { side < 2 }
         requires group { IsGroup (pool_of self.old.config.now) (batch_of self.old.config.now) (back_at (kept_by self.old) side) home count }
         requires empty { items.old ≡ [] }
-        ensures expected { expects self.new.wait ≡ expected_of (joined_ask asked.new items.new) }
+        ensures gives { Gives self.old self.new asked.new items.new }
         ensures goes { doing self.old.config.now self.old.app self.new (joined_ask asked.new items.new) ≡ by_reply (give_back self.old.config.now side 0 (back_at (kept_by self.old) side) (kept_by self.old) (after_full_side self.old.config.now self.old.app side (noted_by self.old.turn))) reply.Granted }
-        ensures same { IsSame self.old self.new }
-        ensures given_back { IsGivenBack asked.new items.new }
     {
         self.wait = Wait::SubmitFill { side, home };
         self.backs[side].give(self.config.geometry(), count, items);
@@ -632,49 +488,45 @@ impl<'a> Machine<'a> {
     fn find_fill_full(&mut self, side: usize, asked: &mut Option<Ask>)
         requires side { side < 2 }
         requires some { back_at (kept_by self.old) side ≢ [] }
-        ensures expected { expects self.new.wait ≡ expected_of (joined_ask asked.new []) }
+        ensures gives { Gives self.old self.new asked.new [] }
         ensures goes { (free : ℕ) → GoesOn self.old.config.now self.old.app self.new (joined_ask asked.new []) (by_reply (give_back self.old.config.now side 0 (back_at (kept_by self.old) side) (kept_by self.old) (after_full_side self.old.config.now self.old.app side (noted_by self.old.turn))) (reply.Full free)) }
-        ensures same { IsSame self.old self.new }
     {
         self.go_on_full_side(side, asked);
     }
 
     /// Ends a turn, by the facts as they are now.
     pub(crate) fn end_by_facts(&mut self, asked: &mut Option<Ask>)
-        ensures expected { expects self.new.wait ≡ expected_of (joined_ask asked.new []) }
+        ensures gives { Gives self.old self.new asked.new [] }
         ensures goes { GoesOn self.old.config.now self.old.app self.new (joined_ask asked.new []) (end_by self.old.config.now self.old.app (noted_by self.old.turn) (kept_by self.old)) }
-        ensures same { IsSame self.old self.new }
     {
         if self.tx_done {
             self.end_or_look(asked);
         } else if self.seen[0] && self.seen[1] {
-            self.end_sending(asked.get_or_insert(UNASKED));
+            self.end_sending(asked);
         } else {
-            self.look_rx_done(0, asked.get_or_insert(UNASKED));
+            self.look_rx_done(0, asked);
         }
     }
 
     /// Looks at the first side from this one on that has not told that it has no further packet.
-    fn look_rx_done(&mut self, side: usize, asked: &mut Ask)
+    fn look_rx_done(&mut self, side: usize, asked: &mut Option<Ask>)
         requires { side ≤ 2 }
-        ensures expected { expects self.new.wait ≡ expected_by (joined_call asked.new []) }
-        ensures goes { GoesOn self.old.config.now self.old.app self.new (act.Call (joined_call asked.new [])) (look_rx_done self.old.config.now self.old.app (2 - side) side (kept_by self.old)) }
-        ensures same { IsSame self.old self.new }
+        ensures gives { Gives self.old self.new asked.new [] }
+        ensures goes { GoesOn self.old.config.now self.old.app self.new (joined_ask asked.new []) (look_rx_done self.old.config.now self.old.app (2 - side) side (kept_by self.old)) }
     {
         match first_unset(self.seen, side) {
             Some(side) => {
                 self.wait = Wait::LookRxDone { side };
-                *asked = Ask::Look(Mark::RxDone(self.pairs[side]));
+                *asked = Some(Ask::Look(Mark::RxDone(self.pairs[side])));
             }
             None => self.begin(asked),
         }
     }
 
-    fn learn_rx_done(&mut self, side: usize, done: u64, asked: &mut Ask)
+    fn learn_rx_done(&mut self, side: usize, done: u64, asked: &mut Option<Ask>)
         requires { side < 2 }
-        ensures expected { expects self.new.wait ≡ expected_by (joined_call asked.new []) }
-        ensures goes { GoesOn self.old.config.now self.old.app self.new (act.Call (joined_call asked.new [])) (look_rx_done self.old.config.now self.old.app (2 - (side + 1)) (side + 1) (with_seen (kept_by self.old) side done)) }
-        ensures same { IsSame self.old self.new }
+        ensures gives { Gives self.old self.new asked.new [] }
+        ensures goes { GoesOn self.old.config.now self.old.app self.new (joined_ask asked.new []) (look_rx_done self.old.config.now self.old.app (2 - (side + 1)) (side + 1) (with_seen (kept_by self.old) side done)) }
     {
         if done == 1 {
             self.seen[side] = true;
@@ -684,25 +536,23 @@ impl<'a> Machine<'a> {
 
     /// Tells that nothing more is sent, where both sides were seen as the turn began and each lane was empty in it; and where it
     /// has closed a socket, only if that was acknowledged as the turn began.
-    fn end_sending(&mut self, asked: &mut Ask)
-        ensures expected { expects self.new.wait ≡ expected_by (joined_call asked.new []) }
-        ensures goes { GoesOn self.old.config.now self.old.app self.new (act.Call (joined_call asked.new [])) (tell_tx_done self.old.config.now self.old.app (noted_by self.old.turn) (kept_by self.old)) }
-        ensures same { IsSame self.old self.new }
+    fn end_sending(&mut self, asked: &mut Option<Ask>)
+        ensures gives { Gives self.old self.new asked.new [] }
+        ensures goes { GoesOn self.old.config.now self.old.app self.new (joined_ask asked.new []) (tell_tx_done self.old.config.now self.old.app (noted_by self.old.turn) (kept_by self.old)) }
     {
         let acked = !self.begun || self.turn.acked;
         if self.turn.seen && self.turn.lanes_empty && acked {
             self.wait = Wait::TellTxDone;
-            *asked = Ask::Swap(Mark::TxDone(self.app), 1);
+            *asked = Some(Ask::Swap(Mark::TxDone(self.app), 1));
         } else {
             self.begin(asked);
         }
     }
 
     /// Wakes both drivers, where the flags are used, once it told that it sends nothing more.
-    fn stop_sending(&mut self, asked: &mut Ask)
-        ensures expected { expects self.new.wait ≡ expected_by (joined_call asked.new []) }
-        ensures goes { GoesOn self.old.config.now self.old.app self.new (act.Call (joined_call asked.new [])) (wake_both self.old.config.now self.old.app (told_tx_done (kept_by self.old))) }
-        ensures same { IsSame self.old self.new }
+    fn stop_sending(&mut self, asked: &mut Option<Ask>)
+        ensures gives { Gives self.old self.new asked.new [] }
+        ensures goes { GoesOn self.old.config.now self.old.app self.new (joined_ask asked.new []) (wake_both self.old.config.now self.old.app (told_tx_done (kept_by self.old))) }
     {
         self.tx_done = true;
         if self.config.wakeup() {
@@ -714,9 +564,8 @@ impl<'a> Machine<'a> {
 
     /// Ends where both drivers had ended as the turn began and nothing is left to give back, and else looks for them.
     fn end_or_look(&mut self, asked: &mut Option<Ask>)
-        ensures expected { expects self.new.wait ≡ expected_of (joined_ask asked.new []) }
+        ensures gives { Gives self.old self.new asked.new [] }
         ensures goes { GoesOn self.old.config.now self.old.app self.new (joined_ask asked.new []) (end_or_look self.old.config.now self.old.app (noted_by self.old.turn) (kept_by self.old)) }
-        ensures same { IsSame self.old self.new }
     {
         let nothing_left = self.backs[0].is_empty() && self.backs[1].is_empty();
         if self.turn.gone && self.turn.sides_empty && nothing_left {
@@ -724,30 +573,28 @@ impl<'a> Machine<'a> {
             *asked = None;
             return;
         }
-        self.look_gone(0, asked.get_or_insert(UNASKED));
+        self.look_gone(0, asked);
     }
 
     /// Looks at the first side from this one on whose driver isn't known to have ended.
-    fn look_gone(&mut self, side: usize, asked: &mut Ask)
+    fn look_gone(&mut self, side: usize, asked: &mut Option<Ask>)
         requires { side ≤ 2 }
-        ensures expected { expects self.new.wait ≡ expected_by (joined_call asked.new []) }
-        ensures goes { GoesOn self.old.config.now self.old.app self.new (act.Call (joined_call asked.new [])) (look_gone self.old.config.now self.old.app (2 - side) side (kept_by self.old)) }
-        ensures same { IsSame self.old self.new }
+        ensures gives { Gives self.old self.new asked.new [] }
+        ensures goes { GoesOn self.old.config.now self.old.app self.new (joined_ask asked.new []) (look_gone self.old.config.now self.old.app (2 - side) side (kept_by self.old)) }
     {
         match first_unset(self.gone, side) {
             Some(side) => {
                 self.wait = Wait::LookGone { side };
-                *asked = Ask::Look(Mark::Gone(self.pairs[side]));
+                *asked = Some(Ask::Look(Mark::Gone(self.pairs[side])));
             }
             None => self.begin(asked),
         }
     }
 
-    fn learn_gone(&mut self, side: usize, gone: u64, asked: &mut Ask)
+    fn learn_gone(&mut self, side: usize, gone: u64, asked: &mut Option<Ask>)
         requires { side < 2 }
-        ensures expected { expects self.new.wait ≡ expected_by (joined_call asked.new []) }
-        ensures goes { GoesOn self.old.config.now self.old.app self.new (act.Call (joined_call asked.new [])) (look_gone self.old.config.now self.old.app (2 - (side + 1)) (side + 1) (with_gone (kept_by self.old) side gone)) }
-        ensures same { IsSame self.old self.new }
+        ensures gives { Gives self.old self.new asked.new [] }
+        ensures goes { GoesOn self.old.config.now self.old.app self.new (joined_ask asked.new []) (look_gone self.old.config.now self.old.app (2 - (side + 1)) (side + 1) (with_gone (kept_by self.old) side gone)) }
     {
         if gone == 1 {
             self.gone[side] = true;

@@ -1,4 +1,5 @@
-//! What an application that changes items does to those that it submits on TX.
+//! What an application that changes items does to those that it submits on TX. Descriptors and items change here, and no
+//! byte of a frame: which, is said in `xsk_turns/specs/Mangling`.
 ghost use Rattle.std.specs.Prelude.{◌≡◌, None, Some, ◌+◌, ◌*◌, ◌<◌, ◌≤◌, [], ◌++◌, length, take, vec_len};
 ghost use Rattle.xsk_umem.specs.Limits.{most_frames};
 ghost use Rattle.xsk_turns.specs.Turns.{frame_in};

@@ -1,5 +1,5 @@
 -- What the words of a command mean. This project's own.
-use Rattle.std.specs.Prelude.{◌≡◌, codes, Bool, true, false, List, [], ◌∷◌, Option, Some, None, is_some, find, map, slice_get, option_and_then, option_map, if◌then◌else◌}
+use Rattle.std.specs.Prelude.{◌≡◌, ℕ, codes, Bool, true, false, List, [], ◌∷◌, Option, Some, None, is_some, find, map, slice_get, option_and_then, option_map, if◌then◌else◌}
 use Rattle.std.specs.List.{list_all, list_any}
 use Rattle.std.specs.Option.{option_map_or}
 use Rattle.std.specs.Str.{bytes_eq}
@@ -9,6 +9,8 @@ use Rattle.xsk_args.specs.Program.{programs_in}
 use Rattle.xsk_args.specs.declared.table.OptionRow.{OptionRow}
 use Rattle.xsk_args.specs.declared.table.Takes.{Takes}
 use Rattle.xsk_args.specs.declared.table.Takes.TheVariants.{Nothing, Number, Program, OneOf, AnyText}
+use Rattle.xsk_args.specs.declared.table.Unsaid.{Unsaid}
+use Rattle.xsk_args.specs.declared.table.Unsaid.TheVariants as unsaid
 
 -- what value an option takes: none, a number, programs, one of some words, or any word
 pub data Asked : Type 0 where
@@ -46,6 +48,11 @@ key_of row = (row.name.now, asked row.takes)
 abbrev pub stated : OptionRow → Stated
 stated row = stated_by (key_of row)
 
+-- the number that stands where an option isn't said, and 0 where none does
+abbrev pub number_unsaid : Unsaid → ℕ
+number_unsaid (unsaid.Number number) = number
+number_unsaid (unsaid.Told words) = 0
+
 -- what was said under each name: the values of an option, none for a flag, and the files under `FILE`
 abbrev pub Meaning : Type 0
 Meaning = Text → Option (List Text)
@@ -53,6 +60,10 @@ Meaning = Text → Option (List Text)
 -- the value of an option, where it was said and has one
 abbrev pub one_value : Option (List Text) → Option Text
 one_value = option_and_then (λ values. slice_get values 0)
+
+-- the number that was said of an option, where one was
+abbrev pub number_said : Meaning → Text → Option ℕ
+number_said said name = option_and_then number_in (one_value (said name))
 
 -- the option takes this value
 abbrev pub is_taken : Asked → Text → Bool

@@ -1,10 +1,9 @@
 //! A command's words, read by its tables of options.
-ghost use Rattle.std.specs.Prelude.{◌≡◌, None, Some, IfOk, IsErrOf, codes, is_some, map, option_and_then, option_map, string_bytes};
+ghost use Rattle.std.specs.Prelude.{◌≡◌, None, Some, IfOk, IsErrOf, codes, is_some, map, option_and_then, option_map, string_bytes, unwrap_or};
 ghost use Rattle.std.specs.List.{flat_map, list_all, list_any};
 ghost use Rattle.std.specs.Str.{bytes_eq};
 ghost use Rattle.clap.specs.Words.{all_of, found_of, rows_of};
-ghost use Rattle.xsk_args.specs.Number.{number_in};
-ghost use Rattle.xsk_args.specs.Meaning.{HasNoFileRow, asked, fits, is_taken, key_of, meaning, meant, one_value, under};
+ghost use Rattle.xsk_args.specs.Meaning.{HasNoFileRow, asked, fits, is_taken, key_of, meaning, meant, number_said, number_unsaid, one_value, under};
 ghost use Rattle.xsk_args.specs.Program.{programs_in};
 
 use crate::command::{FILES, matches};
@@ -15,7 +14,7 @@ use clap::ArgMatches;
 use std::alloc::Global;
 use std::marker::Model;
 
-/// What the words of a command say, by the names of its options.
+/// What the words of a command say, option by option.
 #[derive(Drop)]
 pub struct Args<'a> {
     matches: ArgMatches<'a>,
@@ -131,32 +130,39 @@ fn is_one_of(words: &[&str], text: &str) -> bool
 }
 
 impl<'a> Args<'a> {
-    /// The number that was said under the name, where one was.
-    pub fn number(&self, name: &str) -> Option<u32>
-        ensures { result ≡ option_and_then number_in (one_value (under self.now name.now)) }
+    /// The number that was said of an option, where one was.
+    pub fn number(&self, option: &OptionRow) -> Option<u32>
+        ensures { result ≡ number_said (under self.now) option.now.name.now }
     {
-        parse_number(self.text(name)?)
+        parse_number(self.text(option)?)
     }
 
-    /// The programs that were said under the name, where some were.
-    pub fn programs(&self, name: &str) -> Option<ProgramList>
-        ensures { result ≡ option_and_then programs_in (one_value (under self.now name.now)) }
+    /// The number that was said of an option, or else the one that stands where it isn't said.
+    pub fn number_or_usual(&self, option: &OptionRow) -> u32
+        ensures { result ≡ unwrap_or (number_said (under self.now) option.now.name.now) (number_unsaid option.now.unsaid) }
     {
-        parse_programs(self.text(name)?)
+        self.number(option).unwrap_or(option.unsaid.number())
     }
 
-    /// The value that was said under the name, where one was.
-    pub fn text(&self, name: &str) -> Option<&'a str>
-        ensures { option_map (λ text. text.now) result ≡ one_value (under self.now name.now) }
+    /// The programs that were said of an option, where some were.
+    pub fn programs(&self, option: &OptionRow) -> Option<ProgramList>
+        ensures { result ≡ option_and_then programs_in (one_value (under self.now option.now.name.now)) }
     {
-        self.matches.get_str(name)
+        parse_programs(self.text(option)?)
+    }
+
+    /// The value that was said of an option, where one was.
+    pub fn text(&self, option: &OptionRow) -> Option<&'a str>
+        ensures { option_map (λ text. text.now) result ≡ one_value (under self.now option.now.name.now) }
+    {
+        self.matches.get_str(option.name)
     }
 
     /// Whether the option was said.
-    pub fn is_said(&self, name: &str) -> bool
-        ensures { result ≡ is_some (under self.now name.now) }
+    pub fn is_said(&self, option: &OptionRow) -> bool
+        ensures { result ≡ is_some (under self.now option.now.name.now) }
     {
-        self.matches.contains_id(name)
+        self.matches.contains_id(option.name)
     }
 
     /// The files in order. What was parsed has one at least.

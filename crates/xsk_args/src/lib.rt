@@ -14,4 +14,4 @@ pub use error::ArgsError;
 pub use number::parse_number;
 pub use program::{Program, parse_program};
 pub use program_list::{ProgramList, parse_programs};
-pub use table::{OptionRow, Takes};
+pub use table::{OptionRow, Takes, Unsaid};

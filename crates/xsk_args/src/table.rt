@@ -1,4 +1,6 @@
 //! The tables of a command's options.
+ghost use Rattle.std.specs.Prelude.{◌≡◌};
+ghost use Rattle.xsk_args.specs.Meaning.{number_unsaid};
 
 /// What value an option takes.
 #[derive(Clone, Copy)]
@@ -15,7 +17,29 @@ pub enum Takes {
     AnyText,
 }
 
-/// An option that a command has, and what is told of it to who asks. A reader of words looks at its name and at what it takes alone.
+/// What stands where an option isn't said.
+#[derive(Clone, Copy)]
+pub enum Unsaid {
+    /// This number.
+    Number(u32),
+    /// What these words tell, and no number.
+    Told(&'static str),
+}
+
+impl Unsaid {
+    /// The number, and 0 where none stands.
+    pub fn number(self) -> u32
+        ensures { result ≡ number_unsaid self }
+    {
+        match self {
+            Unsaid::Number(number) => number,
+            Unsaid::Told(_) => 0,
+        }
+    }
+}
+
+/// An option that a command has, and what is told of it to who asks. Words are read by its name, by what it takes and by the number
+/// that stands where it isn't said.
 #[derive(Clone, Copy)]
 pub struct OptionRow {
     /// The name without its two hyphens.
@@ -25,6 +49,5 @@ pub struct OptionRow {
     pub about: &'static str,
     /// Which values are accepted. A flag has none.
     pub accepts: &'static str,
-    /// What stands where it isn't said.
-    pub unsaid: &'static str,
+    pub unsaid: Unsaid,
 }

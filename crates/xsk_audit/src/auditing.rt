@@ -6,7 +6,7 @@ ghost use Rattle.xsk_model.specs.Opening.{AreFrames};
 ghost use Rattle.xsk_log.specs.Log.{entries_of};
 ghost use Rattle.xsk_audit.specs.Lines.{lines_of};
 ghost use Rattle.xsk_audit.specs.Telling.{AreSame, IsMissed, IsPassed, IsVerdict};
-ghost use Rattle.xsk_log.specs.Left.{left_of};
+ghost use Rattle.xsk_log.specs.Left.{left_of, pairs_of};
 
 use crate::cutting::{first_line, pass_report};
 use crate::number::number;
@@ -103,9 +103,9 @@ fn pass_same<'a>(
     least: u64,
     text: &'a [u8],
 ) -> Option<(u64, &'a [u8])>
-    ensures pairs { lines.new.pairs ≡ lines.old.pairs }
-    ensures same { IfSome result (λ passed. IsPassed lines.old.pairs (left_of lines.old) (left_of lines.new) least (lines_of text.now) passed.0 (lines_of passed.1.now)) }
-    ensures missed { IfNone result (IsMissed lines.old.pairs (left_of lines.old) least (lines_of text.now)) }
+    ensures pairs { pairs_of lines.new ≡ pairs_of lines.old }
+    ensures same { IfSome result (λ passed. IsPassed (pairs_of lines.old) (left_of lines.old) (left_of lines.new) least (lines_of text.now) passed.0 (lines_of passed.1.now)) }
+    ensures missed { IfNone result (IsMissed (pairs_of lines.old) (left_of lines.old) least (lines_of text.now)) }
     ensures shorter { IfSome result (λ passed. length passed.1.now < length text.now) }
 {
     if text.is_empty() {

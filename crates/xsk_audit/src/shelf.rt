@@ -1,4 +1,5 @@
-//! The frames that callers have.
+//! The frames that callers have. What a Peek gives is put here, and what a Submit names is taken from here, so no call
+//! makes or loses a frame (`specs/Shelf`).
 ghost use Rattle.std.specs.Prelude.{◌≡◌, ◌≤◌, ◌<◌, ℕ, Some, None, [], true, false, replicate, length, IfNone, IfSome, IfOk};
 ghost use Rattle.std.specs.List.{slice_set};
 ghost use Rattle.xsk_umem.specs.Geometry.{frame_of};

@@ -73,7 +73,7 @@ impl<'a> Bench<'a> {
     ghost use Rattle.xsk_machine.specs.Figures.{figures_in};
     ghost use Rattle.xsk_machine.specs.Workers.{IsAskedOnce, setting_with};
     ghost use Rattle.xsk_plain.specs.Engine.{frames_out};
-    ghost use Rattle.xsk_log.specs.Left.{left_of};
+    ghost use Rattle.xsk_log.specs.Left.{left_of, pairs_of};
     ghost use Rattle.xsk_log.specs.Log.{calls_of, entries_of};
     ghost use Rattle.xsk_bench.specs.Played.{HasPlayed, IsGoing, act_of, frames_with};
     ghost use Rattle.xsk_turns.specs.Giving.{with_frames};
@@ -189,7 +189,7 @@ impl<'a> Bench<'a> {
 
     /// Goes over all calls with their replies, and writes the journal's line of each.
     pub fn lines(&self) -> Lines<'_>
-        ensures pairs { result.pairs ≡ length self.now.checked.config.pairs }
+        ensures pairs { pairs_of result ≡ length self.now.checked.config.pairs }
         ensures all { left_of result ≡ self.now.checked.log }
     {
         self.play.checked.lines()

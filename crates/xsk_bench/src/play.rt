@@ -1,4 +1,5 @@
-//! The object with its drivers in their seats.
+//! The object with its drivers in their seats. An application's call is made where it is legal, and the drivers' are by
+//! their machines: so the history is one of a bench (`specs/Played`), whatever is asked.
 ghost use Rattle.std.specs.Prelude.{◌≡◌, ◌<◌, ◌≤◌, ◌+◌, ℕ, List, ◌∷◌, [], IsTrue, ◌↔◌, Err, IfOk, vec_len};
 ghost use Rattle.xsk_umem.specs.Frame.{Frame};
 ghost use Rattle.xsk_umem.specs.Geometry.{IsGeometry};

@@ -1,4 +1,5 @@
-//! The calls that C makes; `c/include/xsk_c.h` declares them. Each answers a number of `answers.rt`.
+//! The calls that C makes; `c/include/xsk_c.h` declares them. Each answers a number of `answers.rt`. No export does more
+//! than read its arguments, call, and tell: what it does is said in `specs/Live` and `specs/Calls`.
 ghost use Rattle.std.specs.Prelude.{◌≡◌, true, false};
 ghost use Rattle.xsk_c.specs.Calls.{Makes, Submits, Peeks, geometry_of};
 ghost use Rattle.xsk_c.specs.Journal.{TellsLog};

@@ -1,4 +1,5 @@
-//! A handle that C keeps, and that owns a state while it is live.
+//! A handle that C keeps, and that owns a state while it is live. `take` and `put` alone change which state that is
+//! (`specs/Held`); C keeps one copy of a handle.
 ghost use Rattle.std.specs.Prelude.{◌≡◌, true, false, MatchOption};
 ghost use Rattle.xsk_c.specs.declared.state.State.{State};
 

@@ -20,7 +20,7 @@ goes-told r line calls P Q each goes = record { read = goes.read; is = goes.is; 
 told-only : (r : Read) (xs : List ℕ) (event : Event) (P : Read → Type 0) → Tells r xs event P → HasTold r xs event
 told-only r xs an_event.Begun P told = tt
 told-only r xs an_event.Passed P told = goes-told r xs r.calls _ _ (λ n rest. (tt, rest.1, rest.2)) told
-told-only r xs (an_event.Setting s) P told = goes-told r xs r.calls _ _ (λ n rest. (tt, rest.1, rest.2, rest.3)) told
+told-only r xs (an_event.Setting s metadata) P told = goes-told r xs r.calls _ _ (λ n rest. (tt, rest.1, rest.2, rest.3, rest.4)) told
 told-only r xs (an_event.NoSetting error) P told = goes-told r xs r.calls _ _ (λ n rest. (tt, rest.1, rest.2)) told
 told-only r xs (an_event.Call call) P told = goes-told r xs (record { line = r.lines + 1; call = call } ∷ r.calls) _ _ (λ n rest. (tt, rest.1)) told
 told-only r xs (an_event.Aside wakeup) P told = goes-told r xs r.calls _ _ (λ n rest. (tt, rest.1, rest.2)) told
@@ -31,7 +31,7 @@ pub some-told : (old new : Reader) (text : List ℕ) (r : Read) (piece : List �
     → (xs : List ℕ) × HasTold r xs event
 some-told old new text r piece an_event.Begun rest next = ([], tt)
 some-told old new text r piece an_event.Passed rest next = (old.begun ++ next.used, told-only r (old.begun ++ next.used) an_event.Passed _ next.told)
-some-told old new text r piece (an_event.Setting s) rest next = (old.begun ++ next.used, told-only r (old.begun ++ next.used) (an_event.Setting s) _ next.told)
+some-told old new text r piece (an_event.Setting s metadata) rest next = (old.begun ++ next.used, told-only r (old.begun ++ next.used) (an_event.Setting s metadata) _ next.told)
 some-told old new text r piece (an_event.NoSetting error) rest next =
     (old.begun ++ next.used, told-only r (old.begun ++ next.used) (an_event.NoSetting error) _ next.told)
 some-told old new text r piece (an_event.Call call) rest next = (old.begun ++ next.used, told-only r (old.begun ++ next.used) (an_event.Call call) _ next.told)
@@ -78,17 +78,17 @@ stepped old new text piece rest an_event.Passed None stands next hears = (
 )
 stepped old new text piece rest an_event.Passed (Some finding) stands next hears =
     absurd (hears (old.reading.begun ++ next.used) (told-only stands.read (old.reading.begun ++ next.used) an_event.Passed _ next.told))
-stepped old new text piece rest (an_event.Setting s) None stands next hears = (
+stepped old new text piece rest (an_event.Setting s metadata) None stands next hears = (
   next.used,
   next.piece_is,
   record {
     read = next.told.read;
     reads = next.told.rest.0;
-    heard = hears (old.reading.begun ++ next.used) (told-only stands.read (old.reading.begun ++ next.used) (an_event.Setting s) _ next.told) next.told.read next.told.is;
+    heard = hears (old.reading.begun ++ next.used) (told-only stands.read (old.reading.begun ++ next.used) (an_event.Setting s metadata) _ next.told) next.told.read next.told.is;
   },
 )
-stepped old new text piece rest (an_event.Setting s) (Some finding) stands next hears =
-    absurd (hears (old.reading.begun ++ next.used) (told-only stands.read (old.reading.begun ++ next.used) (an_event.Setting s) _ next.told))
+stepped old new text piece rest (an_event.Setting s metadata) (Some finding) stands next hears =
+    absurd (hears (old.reading.begun ++ next.used) (told-only stands.read (old.reading.begun ++ next.used) (an_event.Setting s metadata) _ next.told))
 stepped old new text piece rest (an_event.NoSetting error) None stands next hears =
     absurd (hears (old.reading.begun ++ next.used) (told-only stands.read (old.reading.begun ++ next.used) (an_event.NoSetting error) _ next.told))
 stepped old new text piece rest (an_event.NoSetting error) (Some finding) stands next hears = λ later.

@@ -42,7 +42,7 @@ same-calls (n ∷ calls) = ap (λ (cs : List Call). n.call ∷ cs) (same-calls c
 judges-sound : (r : Read) (court : Option Court) → Judges r court → Possible r.header.setting (calls_of r.calls)
 judges-sound r None judges = absurd judges
 judges-sound r (Some court) judges =
-    subst (λ (s : Setting). Possible s (calls_of r.calls)) judges.0 (subst (Possible court.setting) (same-calls r.calls) judges.2.stands.possible)
+    subst (λ (s : Setting). Possible s (calls_of r.calls)) judges.0 (subst (Possible court.setting) (same-calls r.calls) judges.3.stands.possible)
 
 pub heard-sound : (next : Next) (r : Read) (court : Option Court) → IsHeard next r court → IsSound next r
 heard-sound Title r court heard = tt
@@ -75,10 +75,12 @@ followed r n court same follows =
 still-bare : (r n : Read) → IsSame r n → IsBare r → IsBare n
 still-bare r n same bare = record { calls = same.calls ∙ bare.calls; asides = same.asides ∙ bare.asides }
 
--- the judge is the same where the setting is
-judges-same : (r n : Read) (court : Option Court) → n.header.setting ≡ r.header.setting → IsSame r n → Judges r court → Judges n court
-judges-same r n None setting same judges = judges
-judges-same r n (Some court) setting same judges = (judges.0 ∙ sym setting, judges.1, followed r n court same judges.2)
+-- the judge is the same where what the header tells is
+judges-same : (r n : Read) (court : Option Court) → n.header.setting ≡ r.header.setting → n.header.metadata ≡ r.header.metadata → IsSame r n
+    → Judges r court → Judges n court
+judges-same r n None setting metadata same judges = judges
+judges-same r n (Some court) setting metadata same judges =
+    (judges.0 ∙ sym setting, judges.1 ∙ sym metadata, judges.2, followed r n court same judges.3)
 
 calls-heard : (n : Read) (court : Option Court) → n.header.next ≡ Calls → Judges n court → IsHeard n.header.next n court
 calls-heard n court calls judges = subst (λ (k : Next). IsHeard k n court) (sym calls) judges
@@ -90,9 +92,11 @@ passed-heard Umem r n court is leads same other heard = early-heard n.header.nex
 passed-heard Pairs r n court is leads same other heard = early-heard n.header.next n court leads.0 other heard.0 (still-bare r n same heard.1)
 passed-heard Sockets r n court is leads same other heard = early-heard n.header.next n court leads.0 other heard.0 (still-bare r n same heard.1)
 passed-heard Mark r n court is leads same other heard =
-    calls-heard n court (ap (λ (h : Header). h.next) leads.0) (judges-same r n court (ap (λ (h : Header). h.setting) leads.0) same heard.0)
+    calls-heard n court (ap (λ (h : Header). h.next) leads.0)
+    (judges-same r n court (ap (λ (h : Header). h.setting) leads.0) (ap (λ (h : Header). h.metadata) leads.0) same heard.0)
 passed-heard Calls r n court is leads same other heard =
-    calls-heard n court (ap (λ (h : Header). h.next) leads ∙ is) (judges-same r n court (ap (λ (h : Header). h.setting) leads) same heard)
+    calls-heard n court (ap (λ (h : Header). h.next) leads ∙ is)
+    (judges-same r n court (ap (λ (h : Header). h.setting) leads) (ap (λ (h : Header). h.metadata) leads) same heard)
 
 -- the same line leaves the same
 pub same-next : (r n m : Read) (xs : List ℕ) → line_after r xs ≡ Some n → line_after r xs ≡ Some m → n ≡ m
@@ -133,17 +137,19 @@ bare-followed n court bare follows =
     (subst (λ (cs : List Numbered). Follows court (lines_of_calls cs) []) (sym bare.calls) follows)
 
 pub told-setting : (old new : Checked) (court : Court) (r n : Read) (xs : List ℕ) → new.court ≡ Some court → new.calls ≡ old.calls
-    → IsOpen court → Follows court [] [] → Heard old r → HasTold r xs (an_event.Setting court.setting) → line_after r xs ≡ Some n → Heard new n
+    → IsOpen court → Follows court [] [] → Heard old r → HasTold r xs (an_event.Setting court.setting court.hints.metadata) → line_after r xs ≡ Some n
+    → Heard new n
 told-setting old new court r n xs is calls opens follows heard told after =
     let same = same-next r told.read n xs told.is after in
-    let as_before : IsSame r n = same-told r told.read n same told.calls_are told.rest.3 in
+    let as_before : IsSame r n = same-told r told.read n same told.calls_are told.rest.4 in
     let mark : n.header.next ≡ Mark = ap (λ (x : Read). x.header.next) (sym same) ∙ told.rest.1 in
     let setting : n.header.setting ≡ court.setting = ap (λ (x : Read). x.header.setting) (sym same) ∙ told.rest.2 in
+    let metadata : n.header.metadata ≡ court.hints.metadata = ap (λ (x : Read). x.header.metadata) (sym same) ∙ told.rest.3 in
     let none : IsBare n = still-bare r n as_before (early-bare r.header.next r n old.court refl (line-step r n xs after).leads mark heard.court) in
     record {
       court =
           subst (IsHeard n.header.next n) (sym is)
-          (subst (λ (k : Next). IsHeard k n (Some court)) (sym mark) ((sym setting, opens, bare-followed n court none follows), none));
+          (subst (λ (k : Next). IsHeard k n (Some court)) (sym mark) ((sym setting, sym metadata, opens, bare-followed n court none follows), none));
       calls = calls ∙ heard.calls ∙ ap (λ (l : List Numbered). length l) (sym as_before.calls);
     }
 
@@ -173,10 +179,10 @@ pub told-judges : (checked : Checked) (r : Read) (xs : List ℕ) (call : Call) �
 told-judges checked r xs call heard told = judges-calls r checked.court (in-calls r xs call told) heard.court
 
 pub called : (old new : Checked) (court after : Court) (r n : Read) (xs : List ℕ) (line : ℕ) (call : Call) → old.court ≡ Some court → new.court ≡ Some after
-    → new.calls ≡ old.calls + 1 → after.setting ≡ court.setting → IsOpen after
+    → new.calls ≡ old.calls + 1 → after.setting ≡ court.setting → after.hints.metadata ≡ court.hints.metadata → IsOpen after
     → ((lines : List Line) (asides : List Beside) → Follows court lines asides → Follows after (record { line = line; call = call } ∷ lines) asides)
     → line ≡ r.lines + 1 → Heard old r → HasTold r xs (an_event.Call call) → line_after r xs ≡ Some n → Heard new n
-called old new court after r n xs line call was is calls setting opens follows number heard told next =
+called old new court after r n xs line call was is calls setting metadata opens follows number heard told next =
     let same = same-next r told.read n xs told.is next in
     let header = same-header r n xs call told next in
     let judges : Judges r (Some court) = subst (Judges r) was (told-judges old r xs call heard told) in
@@ -185,12 +191,13 @@ called old new court after r n xs line call was is calls setting opens follows n
     let goes_on : Follows after (record { line = r.lines + 1; call = call } ∷ lines_of_calls r.calls) n.asides =
     subst (λ (k : ℕ). Follows after (record { line = k; call = call } ∷ lines_of_calls r.calls) n.asides) number
     (subst (λ (beside : List Beside). Follows after (record { line = line; call = call } ∷ lines_of_calls r.calls) beside) (sym told_asides)
-    (follows (lines_of_calls r.calls) r.asides judges.2)) in
+    (follows (lines_of_calls r.calls) r.asides judges.3)) in
     record {
       court =
           calls-heard n new.court (ap (λ (h : Header). h.next) header ∙ in-calls r xs call told)
           (subst (Judges n) (sym is) (
             setting ∙ judges.0 ∙ ap (λ (h : Header). h.setting) (sym header),
+            metadata ∙ judges.1 ∙ ap (λ (h : Header). h.metadata) (sym header),
             opens,
             subst (λ (cs : List Numbered). Follows after (lines_of_calls cs) n.asides) (sym told_calls) goes_on,
           ));
@@ -203,23 +210,24 @@ pub aside-judges : (checked : Checked) (r : Read) (xs : List ℕ) (wakeup : Wake
 aside-judges checked r xs wakeup heard told = judges-calls r checked.court told.rest.1 heard.court
 
 pub woken : (old new : Checked) (court after : Court) (r n : Read) (xs : List ℕ) (line : ℕ) (wakeup : Wakeup) → old.court ≡ Some court → new.court ≡ Some after
-    → new.calls ≡ old.calls → after.setting ≡ court.setting → (IsOpen court → IsOpen after)
+    → new.calls ≡ old.calls → after.setting ≡ court.setting → after.hints.metadata ≡ court.hints.metadata → (IsOpen court → IsOpen after)
     → ((lines : List Line) (asides : List Beside) → Follows court lines asides → Follows after lines (record { line = line; wakeup = wakeup } ∷ asides))
     → line ≡ r.lines + 1 → Heard old r → HasTold r xs (an_event.Aside wakeup) → line_after r xs ≡ Some n → Heard new n
-woken old new court after r n xs line wakeup was is calls setting opens follows number heard told next =
+woken old new court after r n xs line wakeup was is calls setting metadata opens follows number heard told next =
     let same = same-next r told.read n xs told.is next in
     let header : n.header ≡ r.header = subst (λ (k : Next). Leads k r n) told.rest.1 (line-step r n xs next).leads in
     let judges : Judges r (Some court) = subst (Judges r) was (aside-judges old r xs wakeup heard told) in
     let told_calls : n.calls ≡ r.calls = ap (λ (x : Read). x.calls) (sym same) ∙ told.calls_are in
     let told_asides : n.asides ≡ record { line = r.lines + 1; wakeup = wakeup } ∷ r.asides = ap (λ (x : Read). x.asides) (sym same) ∙ told.rest.2 in
     let goes_on : Follows after (lines_of_calls r.calls) (record { line = r.lines + 1; wakeup = wakeup } ∷ r.asides) =
-    subst (λ (k : ℕ). Follows after (lines_of_calls r.calls) (record { line = k; wakeup = wakeup } ∷ r.asides)) number (follows (lines_of_calls r.calls) r.asides judges.2) in
+    subst (λ (k : ℕ). Follows after (lines_of_calls r.calls) (record { line = k; wakeup = wakeup } ∷ r.asides)) number (follows (lines_of_calls r.calls) r.asides judges.3) in
     record {
       court =
           calls-heard n new.court (ap (λ (h : Header). h.next) header ∙ told.rest.1)
           (subst (Judges n) (sym is) (
             setting ∙ judges.0 ∙ ap (λ (h : Header). h.setting) (sym header),
-            opens judges.1,
+            metadata ∙ judges.1 ∙ ap (λ (h : Header). h.metadata) (sym header),
+            opens judges.2,
             subst (λ (cs : List Numbered). Follows after (lines_of_calls cs) n.asides) (sym told_calls)
                 (subst (λ (beside : List Beside). Follows after (lines_of_calls r.calls) beside) (sym told_asides) goes_on),
           ));
@@ -257,7 +265,7 @@ found-call checked court r xs line call why was reason number heard counted told
     let judges : Judges r (Some court) = subst (Judges r) was (told-judges checked r xs call heard told) in
     let is : IsWhy n.header.setting (lines_of_calls r.calls) call why × IsReasonOf n.header.setting (lines_of_calls r.calls) line call why =
     subst (λ (s : Setting). IsWhy s (lines_of_calls r.calls) call why × IsReasonOf s (lines_of_calls r.calls) line call why) (judges.0 ∙ sym setting)
-    (reason (lines_of_calls r.calls) judges.2.stands) in
+    (reason (lines_of_calls r.calls) judges.3.stands) in
     let calls : calls_of n.calls ≡ call ∷ calls_in (lines_of_calls r.calls) =
     ap calls_of told.calls_are ∙ ap (λ (cs : List Call). call ∷ cs) (sym (same-calls r.calls)) in (
       (

@@ -1,5 +1,5 @@
 -- The hints on a recording that is whole.
-use Rattle.std.proofs.Common.{◌≡◌, ◌≢◌, ℕ, ◌+◌, ◌⊎◌, Option, Some, None, true, false, List, [], ◌∷◌, ◌++◌, refl, sym, ap, subst, ◌∙◌, arith, inl, inr, ⊎_elim}
+use Rattle.std.proofs.Common.{◌≡◌, ◌≢◌, ℕ, ◌+◌, ◌⊎◌, Bool, Option, Some, None, true, false, List, [], ◌∷◌, ◌++◌, refl, sym, ap, subst, ◌∙◌, arith, inl, inr, ⊎_elim}
 use Rattle.std.specs.Prelude.{◌==◌, Result, Ok, Err, OnOk}
 use Rattle.std.proofs.lemmas.Bool.{cases_Bool, eqb-true, eqb-false}
 use Rattle.xsk_side.specs.Setting.{Setting}
@@ -76,7 +76,7 @@ begins-whole reader text r stands empty sound = record {
 -- ---- the court
 
 judged-open : (r : Read) (court : Option Court) (here : Court) → court ≡ Some here → Judges r court → IsOpen here
-judged-open r court here is judges = let there : Judges r (Some here) = subst (Judges r) is judges in there.1
+judged-open r court here is judges = let there : Judges r (Some here) = subst (Judges r) is judges in there.2
 
 no-court : (here : Court) (court : Option Court) → court ≡ Some here → court ≡ None → ⊥
 no-court here court some none = cc (sym some ∙ none)
@@ -99,15 +99,18 @@ judges-whole checked text calls stands is =
 -- ---- the hints
 
 hints-are : (checked : Checked) (court : Court) (text : List ℕ) (calls : ℕ) (stands : StandsFor checked text) → IsVerdict text (a_verdict.Possible calls)
-    → court.setting ≡ stands.read.header.setting → AreHints text (hints_on court.setting (lines_of_calls stands.read.calls) stands.read.asides)
-hints-are checked court text calls stands is setting =
+    → court.setting ≡ stands.read.header.setting → court.hints.metadata ≡ stands.read.header.metadata
+    → AreHints text (hints_on court.setting court.hints.metadata (lines_of_calls stands.read.calls) stands.read.asides)
+hints-are checked court text calls stands is setting metadata =
     let r = stands.read in
     let sound = heard-sound r.header.next r checked.court stands.heard.court in
     record {
       read = r;
       begins = begins-whole checked.reading text r stands.reads (none-begun checked.reading text r calls stands.reads sound is) sound;
       calls = header-whole checked.reading text r calls stands.reads sound is;
-      text_is = ap (λ (s : Setting). hints_on s (lines_of_calls r.calls) r.asides) setting;
+      text_is =
+          ap (λ (s : Setting). hints_on s court.hints.metadata (lines_of_calls r.calls) r.asides) setting
+          ∙ ap (λ (m : Bool). hints_on r.header.setting m (lines_of_calls r.calls) r.asides) metadata;
     }
 
 -- they were put behind a text
@@ -121,13 +124,13 @@ on-ok (Err e) P Q then is = tt
 pub hinted : {A E : Type 0} (checked : Checked) (court : Court) (answer : Result A E) (before behind text : List ℕ) (calls : ℕ) → checked.court ≡ Some court
     → (stands : StandsFor checked text) → IsVerdict text (a_verdict.Possible calls)
     → (Follows court (lines_of_calls stands.read.calls) stands.read.asides
-    → OnOk answer (behind ≡ before ++ hints_on court.setting (lines_of_calls stands.read.calls) stands.read.asides))
+    → OnOk answer (behind ≡ before ++ hints_on court.setting court.hints.metadata (lines_of_calls stands.read.calls) stands.read.asides))
     → OnOk answer (HasHints text before behind)
 hinted {A} {E} checked court answer before behind text calls here stands is told =
     let judges : Judges stands.read (Some court) = subst (Judges stands.read) here (judges-whole checked text calls stands is) in
-    on-ok answer (behind ≡ before ++ hints_on court.setting (lines_of_calls stands.read.calls) stands.read.asides) (HasHints text before behind)
-    (λ put. (hints_on court.setting (lines_of_calls stands.read.calls) stands.read.asides, hints-are checked court text calls stands is judges.0, put))
-    (told judges.2)
+    let hints = hints_on court.setting court.hints.metadata (lines_of_calls stands.read.calls) stands.read.asides in
+    on-ok answer (behind ≡ before ++ hints) (HasHints text before behind) (λ put. (hints, hints-are checked court text calls stands is judges.0 judges.1, put))
+    (told judges.3)
 
 -- without a setting there are no calls
 pub no-calls : (checked : Checked) (text : List ℕ) (calls : ℕ) → checked.court ≡ None → StandsFor checked text → IsVerdict text (a_verdict.Possible calls) → ⊥

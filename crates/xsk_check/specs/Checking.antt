@@ -1,5 +1,5 @@
 -- A recording that is read in pieces and judged: all bytes that a check has read, and what settles their verdict.
-use Rattle.std.specs.Prelude.{◌≡◌, ℕ, Option, Some, None, List, [], ◌∷◌, ◌++◌, length, map}
+use Rattle.std.specs.Prelude.{◌≡◌, ℕ, Bool, Option, Some, None, List, [], ◌∷◌, ◌++◌, length, map}
 use Rattle.std.specs.Borrow.{Bor}
 use Rattle.xsk_side.specs.Setting.{Setting}
 use Rattle.xsk_judge.specs.Stands.{Line, IsReady as IsReadyJudge, IsWhy, StandsFor as StandsForLines}
@@ -58,13 +58,14 @@ pub record Follows (court : Court) (lines : List Line) (asides : List Beside) : 
   pub feeds : Feeds court.setting court.fills lines
   pub wakens : Wakens court.wakes asides
 
-abbrev pub hints_on : Setting → List Line → List Beside → List ℕ
-hints_on s lines asides = hints_text s lines ++ fills_text s lines ++ wakes_text s lines asides
+abbrev pub hints_on : Setting → Bool → List Line → List Beside → List ℕ
+hints_on s metadata lines asides = hints_text s metadata lines ++ fills_text s lines ++ wakes_text s lines asides
 
--- they are those of the header's setting and of its calls, looks and wakes
+-- they are those of what the header tells and of its calls, looks and wakes
 abbrev pub Judges : Read → Option Court → Type 0
 Judges r None = ⊥
-Judges r (Some court) = (court.setting ≡ r.header.setting) × IsOpen court × Follows court (lines_of_calls r.calls) r.asides
+Judges r (Some court) =
+    (court.setting ≡ r.header.setting) × (court.hints.metadata ≡ r.header.metadata) × IsOpen court × Follows court (lines_of_calls r.calls) r.asides
 
 -- no call, look or wake was read
 pub record IsBare (r : Read) : Type 0 where
@@ -127,7 +128,7 @@ pub record AreHints (text hints : List ℕ) : Type 0 where
   pub read : Read
   pub begins : Begins text [] read
   pub calls : read.header.next ≡ Calls
-  pub text_is : hints ≡ hints_on read.header.setting (lines_of_calls read.calls) read.asides
+  pub text_is : hints ≡ hints_on read.header.setting read.header.metadata (lines_of_calls read.calls) read.asides
 
 -- ---- pieces
 
@@ -147,7 +148,7 @@ Steps new text piece rest (Some finding) = (later : List ℕ) → IsFound (text 
 abbrev pub HasTold : Read → List ℕ → Event → Type 0
 HasTold r line an_event.Begun = Unit {0}
 HasTold r line an_event.Passed = Tells r line an_event.Passed (λ next. Unit {0})
-HasTold r line (an_event.Setting s) = Tells r line (an_event.Setting s) (λ next. Unit {0})
+HasTold r line (an_event.Setting s metadata) = Tells r line (an_event.Setting s metadata) (λ next. Unit {0})
 HasTold r line (an_event.NoSetting error) = Tells r line (an_event.NoSetting error) (λ next. Unit {0})
 HasTold r line (an_event.Call call) = Tells r line (an_event.Call call) (λ next. Unit {0})
 HasTold r line (an_event.Aside wakeup) = Tells r line (an_event.Aside wakeup) (λ next. Unit {0})
@@ -163,8 +164,8 @@ Hears new r line an_event.Begun None = Heard new r
 Hears new r line an_event.Begun (Some finding) = ⊥
 Hears new r line an_event.Passed None = (next : Read) → line_after r line ≡ Some next → Heard new next
 Hears new r line an_event.Passed (Some finding) = ⊥
-Hears new r line (an_event.Setting s) None = (next : Read) → line_after r line ≡ Some next → Heard new next
-Hears new r line (an_event.Setting s) (Some finding) = ⊥
+Hears new r line (an_event.Setting s metadata) None = (next : Read) → line_after r line ≡ Some next → Heard new next
+Hears new r line (an_event.Setting s metadata) (Some finding) = ⊥
 Hears new r line (an_event.NoSetting error) None = ⊥
 Hears new r line (an_event.NoSetting error) (Some finding) = IsFoundAt r line finding
 Hears new r line (an_event.Call call) None = (next : Read) → line_after r line ≡ Some next → Heard new next

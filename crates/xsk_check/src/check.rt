@@ -1,8 +1,9 @@
-//! The check of a recording: it is read in pieces of any size, and each call is judged, and noted for the hints.
+//! The check of a recording: it is read in pieces of any size, and each call is judged, and noted for the hints. However
+//! a file is cut into pieces the verdict is that of all its bytes (`specs/Checking`).
 ghost use Rattle.std.specs.Prelude.{◌≡◌, ◌≢◌, ◌+◌, ◌<◌, ◌++◌, ◌∷◌, [], ℕ, List, IfErr, IfOk, OnOk, None, Some, length};
 ghost use Rattle.xsk_recording.specs.Text.{Beside, Read};
 ghost use Rattle.xsk_recording.specs.Counts.{IsCounted};
-ghost use Rattle.xsk_recording.specs.Verdict.{IsVerdict};
+ghost use Rattle.xsk_recording.specs.Verdict.{IsAtEnd, IsVerdict};
 ghost use Rattle.xsk_judge.specs.Stands.{Line, IsWhy, StandsFor as StandsForLines};
 ghost use Rattle.xsk_judge.specs.Reasons.{IsReasonOf};
 ghost use Rattle.xsk_check.specs.Checking.{AreHints, Follows, Goes, HasTold, Heard, Hears, IsOpen, IsReady, StandsFor, Steps, hints_on, setting_in, setting_view};
@@ -60,7 +61,8 @@ impl Check {
 
     /// The verdict where the text ends here.
     pub fn verdict(&self) -> Verdict
-        ensures { (text : List ℕ) → StandsFor self.now text → IsVerdict text result }
+        ensures is { (text : List ℕ) → StandsFor self.now text → IsVerdict text result }
+        ensures end { IsAtEnd result }
     {
         self.reading.verdict(self.calls)
     }
@@ -148,8 +150,8 @@ impl Check {
         match event {
             Event::Begun => Ok(None),
             Event::Passed => Ok(None),
-            Event::Setting(setting) => {
-                let court = open_court(self.alloc, setting)?;
+            Event::Setting { setting, metadata } => {
+                let court = open_court(self.alloc, setting, metadata)?;
                 self.court = Some(court);
                 Ok(None)
             }
@@ -205,13 +207,14 @@ fn has_ended(part: &[u8]) -> bool {
 }
 
 /// The judge and the hints of a setting, before the first call.
-fn open_court(alloc: Global, setting: Setting) -> Result<Court, OutOfMemory>
+fn open_court(alloc: Global, setting: Setting, metadata: bool) -> Result<Court, OutOfMemory>
     ensures setting { IfOk result (λ court. court.setting ≡ setting) }
+    ensures metadata { IfOk result (λ court. court.hints.metadata ≡ metadata) }
     ensures opens { IfOk result IsOpen }
     ensures follows { IfOk result (λ court. Follows court [] []) }
 {
     let judge = Judge::new(alloc, &setting)?;
-    let hints = Hints::new(alloc, &setting)?;
+    let hints = Hints::new(alloc, &setting, metadata)?;
     let fills = Fills::new(alloc, &setting)?;
     let wakes = Wakes::new(alloc, &setting)?;
     Ok(Court {
@@ -227,7 +230,7 @@ fn open_court(alloc: Global, setting: Setting) -> Result<Court, OutOfMemory>
 fn push_hints(text: &mut Vec<u8>, court: &Court) -> Result<(), OutOfMemory>
     requires { IsOpen court.now }
     ensures { (lines : List Line) (asides : List Beside) → Follows court.now lines asides
-        → OnOk result (text.new.items ≡ text.old.items ++ hints_on court.now.setting lines asides) }
+        → OnOk result (text.new.items ≡ text.old.items ++ hints_on court.now.setting court.now.hints.metadata lines asides) }
 {
     court.hints.append(text, &court.setting, &court.judge)?;
     court.fills.append(text, &court.setting)?;
@@ -238,6 +241,7 @@ fn push_hints(text: &mut Vec<u8>, court: &Court) -> Result<(), OutOfMemory>
 fn step(court: &mut Court, line: u64, call: &Call) -> Result<(), Why>
     requires { IsOpen court.old }
     ensures setting { court.new.setting ≡ court.old.setting }
+    ensures metadata { court.new.hints.metadata ≡ court.old.hints.metadata }
     ensures opens { IfOk result (λ _. IsOpen court.new) }
     ensures follows { IfOk result (λ _. (lines : List Line) (asides : List Beside) → Follows court.old lines asides
         → Follows court.new (record { line = line; call = call.now } ∷ lines) asides) }
@@ -253,6 +257,7 @@ fn step(court: &mut Court, line: u64, call: &Call) -> Result<(), Why>
 /// A look or a wake is noted.
 fn wake(court: &mut Court, line: u64, wakeup: Wakeup)
     ensures setting { court.new.setting ≡ court.old.setting }
+    ensures metadata { court.new.hints.metadata ≡ court.old.hints.metadata }
     ensures opens { IsOpen court.old → IsOpen court.new }
     ensures follows { (lines : List Line) (asides : List Beside) → Follows court.old lines asides
         → Follows court.new lines (record { line = line; wakeup = wakeup } ∷ asides) }

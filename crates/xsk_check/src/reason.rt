@@ -1,5 +1,8 @@
 //! Why a call isn't possible, in words: a line or two, and the earlier line that they name.
 
+ghost use Rattle.std.specs.Prelude.{◌≡◌};
+ghost use Rattle.xsk_check.specs.Naming.{denial_since as since_by_denial, named_in, rule_since as since_by_rule, why_since};
+
 use crate::Blame;
 use std::alloc::{AllocError, Global};
 use std::fmt::Write;
@@ -70,25 +73,49 @@ pub fn reason_text(
     Ok(text)
 }
 
-/// The earlier line that the reason names, where it names one.
-pub fn named_line(line: u64, why: Why) -> Option<u64> {
-    let named = match why {
-        Why::Rule(Rule::Frame(_, known) | Rule::PassedOn(_, known)) => known.since,
-        Why::Kernel(
-            Denial::NotFilled(_, known) | Denial::NotSent(_, known) | Denial::OtherPair(_, known),
-        ) => known.since,
-        Why::Kernel(
-            Denial::Refused(_, shown)
-            | Denial::FewerFree(_, shown)
-            | Denial::Empty(_, shown)
-            | Denial::Other(_, _, shown),
-        ) => shown,
-        _ => 0,
-    };
+/// The earlier line that the reason names for the call of this line, where it names one.
+pub fn named_line(line: u64, why: Why) -> Option<u64>
+    ensures { result ≡ named_in line why }
+{
+    let named = since(why);
     if named == 0 || named == line {
         None
     } else {
         Some(named)
+    }
+}
+
+/// Since which line what the reason speaks of is as it is; 0 is the start, and stands where it speaks of no such thing.
+fn since(why: Why) -> u64
+    ensures { result ≡ why_since why }
+{
+    match why {
+        Why::Rule(rule) => rule_since(rule),
+        Why::Kernel(denial) => denial_since(denial),
+        Why::TooMany => 0,
+    }
+}
+
+fn rule_since(rule: Rule) -> u64
+    ensures { result ≡ since_by_rule rule }
+{
+    match rule {
+        Rule::Frame(_, known) | Rule::PassedOn(_, known) => known.since,
+        _ => 0,
+    }
+}
+
+fn denial_since(denial: Denial) -> u64
+    ensures { result ≡ since_by_denial denial }
+{
+    match denial {
+        Denial::Refused(_, since)
+        | Denial::FewerFree(_, since)
+        | Denial::Empty(_, since)
+        | Denial::Other(_, _, since) => since,
+        Denial::NotFilled(_, known) | Denial::NotSent(_, known) | Denial::OtherPair(_, known) =>
+            known.since,
+        _ => 0,
     }
 }
 

@@ -8,11 +8,12 @@ use Rattle.xsk_io.specs.declared.bay.Kind.{Kind}
 use Rattle.xsk_io.specs.declared.bay.Kind.TheVariants.{Write}
 use Rattle.xsk_io.specs.declared.bay.Stream.{Stream}
 use Rattle.xsk_io.specs.declared.bay.Stream.TheVariants.{Input, Report}
-use Rattle.xsk_recording.specs.Verdict.{IsVerdict}
+use Rattle.xsk_recording.specs.Verdict.{IsAtEnd, IsVerdict}
 use Rattle.xsk_recording.specs.declared.verdict.Verdict.{Verdict}
 use Rattle.xsk_recording.specs.declared.verdict.Verdict.TheVariants as a_verdict
 use Rattle.xsk_checking.specs.Ending.{verdict_text, line_of, IsTold, IsFaultOf, IsBehind, HasTold, MayFollow, GotText, IsReported, Comes, Ends, IsAnswer, Settles, HasBytes, HasJudged, HasFailed}
 use Rattle.xsk_check.specs.Checking.{AreHints, Checked, StandsFor, IsFound, IsBlamed}
+use Rattle.xsk_check.specs.Naming.{IsNamed, named_of}
 use Rattle.xsk_check.specs.declared.finding.Blame.{Blame}
 use Rattle.xsk_check.specs.declared.finding.Finding.{Finding}
 use Rattle.xsk_checking.specs.declared.checking.Report.{Report as Told}
@@ -92,6 +93,43 @@ told-hints bytes verdict calls line text possible line_is is told =
       is = subst (λ v. IsBehind bytes v put.0) (sym possible) put.1;
     }
 
+-- ---- the line that is named
+
+-- of what is found before the end
+named-blamed : (bytes : List ℕ) (verdict : Verdict) (blame : Option Blame) (named : Option ℕ) → IsBlamed bytes verdict blame → named ≡ named_of verdict blame
+    → IsNamed bytes verdict named
+named-blamed bytes a_verdict.Empty blame named is so = absurd is
+named-blamed bytes a_verdict.NoCalls blame named is so = absurd is
+named-blamed bytes (a_verdict.Possible calls) blame named is so = absurd is
+named-blamed bytes (a_verdict.NotPossible line) None named is so = absurd is
+named-blamed bytes (a_verdict.NotPossible line) (Some blame) named is so = (blame, is, so)
+named-blamed bytes (a_verdict.NoRecording line) blame named is so = so
+named-blamed bytes (a_verdict.NoSetting line error) blame named is so = so
+
+-- and at it
+named-late : (bytes : List ℕ) (verdict : Verdict) (named : Option ℕ) → IsAtEnd verdict → named ≡ None → IsNamed bytes verdict named
+named-late bytes a_verdict.Empty named late none = none
+named-late bytes a_verdict.NoCalls named late none = none
+named-late bytes (a_verdict.Possible calls) named late none = none
+named-late bytes (a_verdict.NotPossible line) named late none = absurd late
+named-late bytes (a_verdict.NoRecording line) named late none = none
+named-late bytes (a_verdict.NoSetting line error) named late none = absurd late
+
+pub named-on : (checked : Checked) (found : Option Finding) (finding : Finding) (answer : Result Told Failure) → found ≡ Some finding
+    → IfOk answer (λ report. report.verdict ≡ finding.verdict) → IfOk answer (λ report. report.named ≡ named_of finding.verdict finding.blame)
+    → IfOk answer (λ report. (bytes : List ℕ) → Settles checked bytes found → IsNamed bytes report.verdict report.named)
+named-on checked found finding (Ok report) is verdict named = λ bytes settles.
+    let here : IsFound bytes finding = subst (Settles checked bytes) is settles in
+    subst (λ v. IsNamed bytes v report.named) (sym verdict) (named-blamed bytes finding.verdict finding.blame report.named here.1 named)
+named-on checked found finding (Err failure) is verdict named = tt
+
+pub named-at-end : (checked : Checked) (found : Option Finding) (verdict : Verdict) (answer : Result Told Failure) → IsAtEnd verdict
+    → IfOk answer (λ report. report.verdict ≡ verdict) → IfOk answer (λ report. report.named ≡ None)
+    → IfOk answer (λ report. (bytes : List ℕ) → Settles checked bytes found → IsNamed bytes report.verdict report.named)
+named-at-end checked found verdict (Ok report) late same named = λ bytes settles.
+    subst (λ v. IsNamed bytes v report.named) (sym same) (named-late bytes verdict report.named late named)
+named-at-end checked found verdict (Err failure) late same named = tt
+
 -- ---- what is told of a file
 
 pub told-on : (checked : Checked) (found : Option Finding) (finding : Finding) (answer : Result Told Failure) → found ≡ Some finding
@@ -117,8 +155,9 @@ pub judged-of : (file : Option Text) (old new : Moment) (name : Text) (checked :
     → IsTold (new.asked (Input 0)) name → HasBytes old new checked found
     → IfOk answer (λ report. (bytes : List ℕ) → Settles checked bytes found → IsVerdict bytes report.verdict)
     → IfOk answer (λ report. (bytes : List ℕ) → Settles checked bytes found → HasTold bytes report.verdict report.text.items)
-    → IfOk answer (λ report. HasJudged file old new report.verdict report.text.items)
-judged-of file old new name checked found (Ok report) is asked read verdict text = record {
+    → IfOk answer (λ report. (bytes : List ℕ) → Settles checked bytes found → IsNamed bytes report.verdict report.named)
+    → IfOk answer (λ report. HasJudged file old new report.verdict report.text.items report.named)
+judged-of file old new name checked found (Ok report) is asked read verdict text named = record {
   name = name;
   file_is = is;
   asked = asked;
@@ -126,25 +165,28 @@ judged-of file old new name checked found (Ok report) is asked read verdict text
   told = read.told;
   verdict_is = verdict read.bytes read.settles;
   has_told = text read.bytes read.settles;
+  names = named read.bytes read.settles;
   held = read.held;
   faults = read.faults;
 }
-judged-of file old new name checked found (Err failure) is asked read verdict text = tt
+judged-of file old new name checked found (Err failure) is asked read verdict text named = tt
 
 same-name : (file : Option Text) (name other : Text) → file ≡ Some name → file ≡ Some other → name ≡ other
 same-name file name other one two = let both : ◌≡◌ {A = Option Text} (Some name) (Some other) = sym one ∙ two in cc both
 
-pub judged-answer : (file : Option Text) (old mid new : Moment) (verdict : Verdict) (text : List ℕ) (end : End) → HasJudged file old mid verdict text
-    → Comes verdict text mid new end → Same mid.asked new.asked → CountsOnly Write Report mid.faults new.faults → IsAnswer file old new end
-judged-answer file old mid new verdict text (Judged told) judged comes asked counts = record {
+pub judged-answer : (file : Option Text) (old mid new : Moment) (verdict : Verdict) (text : List ℕ) (named : Option ℕ) (end : End)
+    → HasJudged file old mid verdict text named → Comes verdict text mid new end → Same mid.asked new.asked → CountsOnly Write Report mid.faults new.faults
+    → IsAnswer file old new end named
+judged-answer file old mid new verdict text named (Judged told) judged comes asked counts = record {
   usage = λ e. cc e;
   unsaid = λ none. cc (sym judged.file_is ∙ none);
   ends =
-      subst (λ v. Ends old new (Judged v)) (sym comes.0) (
+      subst (λ v. Ends old new (Judged v) named) (sym comes.0) (
         judged.bytes,
         text,
         judged.told,
         judged.verdict_is,
+        judged.names,
         judged.has_told,
         reported-earlier verdict text old mid new judged.held (judged.faults Write Report) comes.1,
       );
@@ -153,17 +195,18 @@ judged-answer file old mid new verdict text (Judged told) judged comes asked cou
   cause = λ kind stream is. absurd is;
   others = λ kind stream fault report. but-its-own Write Report mid.faults new.faults counts kind stream report ∙ judged.faults kind stream;
 }
-judged-answer file old mid new verdict text (Failed Usage) judged comes asked counts = cc comes.0
-judged-answer file old mid new verdict text (Failed Unopened) judged comes asked counts = cc comes.0
-judged-answer file old mid new verdict text (Failed Unread) judged comes asked counts = cc comes.0
-judged-answer file old mid new verdict text (Failed OutOfMemory) judged comes asked counts = cc comes.0
-judged-answer file old mid new verdict text (Failed Unwritten) judged comes asked counts =
+judged-answer file old mid new verdict text named (Failed Usage) judged comes asked counts = cc comes.0
+judged-answer file old mid new verdict text named (Failed Unopened) judged comes asked counts = cc comes.0
+judged-answer file old mid new verdict text named (Failed Unread) judged comes asked counts = cc comes.0
+judged-answer file old mid new verdict text named (Failed OutOfMemory) judged comes asked counts = cc comes.0
+judged-answer file old mid new verdict text named (Failed Unwritten) judged comes asked counts =
     let calls = comes.1.0 in
     let is : verdict ≡ a_verdict.Possible calls = comes.1.1 in
     record {
       usage = λ e. cc e;
       unsaid = λ none. cc (sym judged.file_is ∙ none);
       ends = (
+        subst (λ v. IsNamed judged.bytes v named) is judged.names,
         judged.bytes,
         text,
         calls,
@@ -185,8 +228,8 @@ judged-answer file old mid new verdict text (Failed Unwritten) judged comes aske
 
 -- one that isn't of the report
 failed-so : (file : Option Text) (old mid new : Moment) (failure : Failure) → HasFailed file old mid failure
-    → ((kind : Kind) (stream : Stream) → IsFaultOf failure kind stream → (kind ≡ Write → ⊥)) → (GotText (line_of failure) old new → Ends old new (Failed failure))
-    → GotText (line_of failure) mid new → Same mid.asked new.asked → CountsOnly Write Report mid.faults new.faults → IsAnswer file old new (Failed failure)
+    → ((kind : Kind) (stream : Stream) → IsFaultOf failure kind stream → (kind ≡ Write → ⊥)) → (GotText (line_of failure) old new → Ends old new (Failed failure) None)
+    → GotText (line_of failure) mid new → Same mid.asked new.asked → CountsOnly Write Report mid.faults new.faults → IsAnswer file old new (Failed failure) None
 failed-so file old mid new failure failed kinds ends got asked counts = record {
   usage = λ e. failed.usage (let is : failure ≡ Usage = cc e in is);
   unsaid = λ none. ap Failed (failed.unsaid none);
@@ -199,11 +242,11 @@ failed-so file old mid new failure failed kinds ends got asked counts = record {
 }
 
 pub failed-answer : (file : Option Text) (old mid new : Moment) (failure : Failure) → HasFailed file old mid failure → GotText (line_of failure) mid new
-    → Same mid.asked new.asked → CountsOnly Write Report mid.faults new.faults → IsAnswer file old new (Failed failure)
-failed-answer file old mid new Usage failed got asked counts = failed-so file old mid new Usage failed (λ kind stream is e. is) (λ g. g) got asked counts
+    → Same mid.asked new.asked → CountsOnly Write Report mid.faults new.faults → IsAnswer file old new (Failed failure) None
+failed-answer file old mid new Usage failed got asked counts = failed-so file old mid new Usage failed (λ kind stream is e. is) (λ got. (refl, got)) got asked counts
 failed-answer file old mid new Unopened failed got asked counts =
-    failed-so file old mid new Unopened failed (λ kind stream is e. cc (sym is.0 ∙ e)) (λ g. g) got asked counts
+    failed-so file old mid new Unopened failed (λ kind stream is e. cc (sym is.0 ∙ e)) (λ got. (refl, got)) got asked counts
 failed-answer file old mid new Unread failed got asked counts =
-    failed-so file old mid new Unread failed (λ kind stream is e. cc (sym is.0 ∙ e)) (λ g. g) got asked counts
+    failed-so file old mid new Unread failed (λ kind stream is e. cc (sym is.0 ∙ e)) (λ got. (refl, got)) got asked counts
 failed-answer file old mid new Unwritten failed got asked counts = absurd (failed.not_report refl)
-failed-answer file old mid new OutOfMemory failed got asked counts = failed-so file old mid new OutOfMemory failed (λ kind stream is e. is) (λ g. g) got asked counts
+failed-answer file old mid new OutOfMemory failed got asked counts = failed-so file old mid new OutOfMemory failed (λ kind stream is e. is) (λ got. (refl, got)) got asked counts

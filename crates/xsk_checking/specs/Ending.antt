@@ -11,6 +11,7 @@ use Rattle.xsk_recording.specs.Verdict.{IsVerdict}
 use Rattle.xsk_recording.specs.declared.verdict.Verdict.{Verdict}
 use Rattle.xsk_recording.specs.declared.verdict.Verdict.TheVariants as a_verdict
 use Rattle.xsk_check.specs.Checking.{Checked, StandsFor, IsFound, AreHints}
+use Rattle.xsk_check.specs.Naming.{IsNamed}
 use Rattle.xsk_check.specs.declared.finding.Finding.{Finding}
 use Rattle.xsk_io.specs.Bay.{Grows, GrowsByPart, Moment, Rose, Same}
 use Rattle.xsk_io.specs.declared.bay.Kind.{Kind}
@@ -145,25 +146,27 @@ Comes verdict text old new (Failed failure) =
 
 -- ---- the end
 
--- The verdict is that of all bytes of the file, and the report got its line and what stands behind it; or a failure is told. The bytes
--- are those that the bay tells, where it tells them.
-abbrev pub Ends : Moment → Moment → End → Type 0
-Ends old new (Judged verdict) =
-    (bytes text : List ℕ) × IsTold (old.left (Input 0)) bytes × IsVerdict bytes verdict × HasTold bytes verdict text × IsReported verdict text old new
-Ends old new (Failed Unwritten) =
-    (bytes text : List ℕ) × (calls : ℕ) × IsTold (old.left (Input 0)) bytes × IsVerdict bytes (a_verdict.Possible calls)
+-- The verdict is that of all bytes of the file, and the report got its line and what stands behind it, and the line that is named is that
+-- of the reason; or a failure is told, and no line is named. The bytes are those that the bay tells, where it tells them.
+abbrev pub Ends : Moment → Moment → End → Option ℕ → Type 0
+Ends old new (Judged verdict) named =
+    (bytes text : List ℕ) × IsTold (old.left (Input 0)) bytes × IsVerdict bytes verdict × IsNamed bytes verdict named × HasTold bytes verdict text
+    × IsReported verdict text old new
+Ends old new (Failed Unwritten) named =
+    (named ≡ None)
+    × (bytes text : List ℕ) × (calls : ℕ) × IsTold (old.left (Input 0)) bytes × IsVerdict bytes (a_verdict.Possible calls)
     × HasTold bytes (a_verdict.Possible calls) text × GrowsByPart (old.held Report) (new.held Report) text
-Ends old new (Failed failure) = GotText (line_of failure) old new
+Ends old new (Failed failure) named = (named ≡ None) × GotText (line_of failure) old new
 
 -- the failure that is told
 abbrev pub IsFault : End → Kind → Stream → Type 0
 IsFault (Judged verdict) kind stream = ⊥
 IsFault (Failed failure) kind stream = IsFaultOf failure kind stream
 
-pub record IsAnswer (file : Option Text) (old new : Moment) (end : End) : Type 0 where
+pub record IsAnswer (file : Option Text) (old new : Moment) (end : End) (named : Option ℕ) : Type 0 where
   pub usage : end ≡ Failed Usage → file ≡ None
   pub unsaid : file ≡ None → end ≡ Failed Usage
-  pub ends : Ends old new end
+  pub ends : Ends old new end named
   pub asked : (name : Text) → file ≡ Some name → IsTold (new.asked (Input 0)) name
   -- a failure has its cause, and no other call failed but a write of the report
   pub cause : (kind : Kind) (stream : Stream) → IsFault end kind stream → Rose (old.faults kind stream) (new.faults kind stream)
@@ -173,7 +176,7 @@ pub record IsAnswer (file : Option Text) (old new : Moment) (end : End) : Type 0
 -- ---- inside
 
 -- the file was read and judged, and this is told of it
-pub record HasJudged (file : Option Text) (old new : Moment) (verdict : Verdict) (text : List ℕ) : Type 0 where
+pub record HasJudged (file : Option Text) (old new : Moment) (verdict : Verdict) (text : List ℕ) (named : Option ℕ) : Type 0 where
   pub name : Text
   pub file_is : file ≡ Some name
   pub asked : IsTold (new.asked (Input 0)) name
@@ -181,6 +184,7 @@ pub record HasJudged (file : Option Text) (old new : Moment) (verdict : Verdict)
   pub told : IsTold (old.left (Input 0)) bytes
   pub verdict_is : IsVerdict bytes verdict
   pub has_told : HasTold bytes verdict text
+  pub names : IsNamed bytes verdict named
   pub held : new.held Report ≡ old.held Report
   pub faults : (kind : Kind) → Same (old.faults kind) (new.faults kind)
 

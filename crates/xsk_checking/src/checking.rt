@@ -4,6 +4,7 @@ ghost use Rattle.xsk_args.specs.Words.{is_dashed};
 ghost use Rattle.xsk_io.specs.Bay.{CountsOnly, NoneOpen, Same};
 ghost use Rattle.xsk_io.specs.declared.bay.Kind.{Kind};
 ghost use Rattle.xsk_check.specs.Checking.{IsReady, StandsFor};
+ghost use Rattle.xsk_check.specs.Naming.{IsNamed, named_of};
 ghost use Rattle.xsk_checking.specs.Ending.{file_in, is_check as are_check, verdict_text, Comes, HasFailed, HasJudged, HasTold, IsAnswer, MayFollow, Settles};
 ghost use Rattle.xsk_recording.specs.Verdict.{IsVerdict};
 
@@ -47,7 +48,7 @@ pub fn is_check(words: &[String]) -> bool
 /// and the reason follow; where all are, the hints (`xsk_hints`). A failure is told in its line, as those of the other commands.
 pub fn run_check<B: Bay>(alloc: Global, words: &[String], bay: &mut B) -> Checkup
     requires { NoneOpen (B.moment bay.old) }
-    ensures { IsAnswer (file_in (map string_bytes words.now)) (B.moment bay.old) (B.moment bay.new) result.end }
+    ensures { IsAnswer (file_in (map string_bytes words.now)) (B.moment bay.old) (B.moment bay.new) result.end result.named }
 {
     match judge_words(alloc, words, bay) {
         Ok(report) => tell(bay, report),
@@ -64,6 +65,7 @@ pub fn run_check<B: Bay>(alloc: Global, words: &[String], bay: &mut B) -> Checku
 /// Tells what is told of a recording. That it is possible is a success only where it could be told.
 fn tell<B: Bay>(bay: &mut B, report: Report) -> Checkup
     ensures comes { Comes report.verdict report.text.items (B.moment bay.old) (B.moment bay.new) result.end }
+    ensures named { result.named ≡ report.named }
     ensures asked { Same (B.moment bay.old).asked (B.moment bay.new).asked }
     ensures counts { CountsOnly Kind.Write Stream.Report (B.moment bay.old).faults (B.moment bay.new).faults }
 {
@@ -81,7 +83,7 @@ fn tell<B: Bay>(bay: &mut B, report: Report) -> Checkup
 /// Reads and judges the file that the words name.
 fn judge_words<B: Bay>(alloc: Global, words: &[String], bay: &mut B) -> Result<Report, Failure>
     requires { NoneOpen (B.moment bay.old) }
-    ensures judged { IfOk result (λ report. HasJudged (file_in (map string_bytes words.now)) (B.moment bay.old) (B.moment bay.new) report.verdict report.text.items) }
+    ensures judged { IfOk result (λ report. HasJudged (file_in (map string_bytes words.now)) (B.moment bay.old) (B.moment bay.new) report.verdict report.text.items report.named) }
     ensures failed { IfErr result (HasFailed (file_in (map string_bytes words.now)) (B.moment bay.old) (B.moment bay.new)) }
 {
     let Some(file) = file_of(words) else {
@@ -120,6 +122,7 @@ fn report_of(alloc: Global, check: &Check, found: Option<Finding>) -> Result<Rep
     requires { (bytes : List ℕ) × Settles check.now bytes found }
     ensures verdict { IfOk result (λ report. (bytes : List ℕ) → Settles check.now bytes found → IsVerdict bytes report.verdict) }
     ensures text { IfOk result (λ report. (bytes : List ℕ) → Settles check.now bytes found → HasTold bytes report.verdict report.text.items) }
+    ensures named { IfOk result (λ report. (bytes : List ℕ) → Settles check.now bytes found → IsNamed bytes report.verdict report.named) }
     ensures failed { IfErr result (λ failure. failure ≡ Failure.OutOfMemory) }
 {
     match found {
@@ -131,6 +134,7 @@ fn report_of(alloc: Global, check: &Check, found: Option<Finding>) -> Result<Rep
 /// What is told of a verdict that is found before the end.
 fn report_on(alloc: Global, check: &Check, finding: Finding) -> Result<Report, Failure>
     ensures verdict { IfOk result (λ report. report.verdict ≡ finding.verdict) }
+    ensures named { IfOk result (λ report. report.named ≡ named_of finding.verdict finding.blame) }
     ensures text { IfOk result (λ report. (behind : List ℕ) × MayFollow finding.verdict behind × (report.text.items ≡ verdict_text finding.verdict ++ behind)) }
     ensures failed { IfErr result (λ failure. failure ≡ Failure.OutOfMemory) }
 {
@@ -151,6 +155,7 @@ fn report_on(alloc: Global, check: &Check, finding: Finding) -> Result<Report, F
 fn report_at_end(alloc: Global, check: &Check, verdict: Verdict) -> Result<Report, Failure>
     requires { IsReady check.now }
     ensures verdict { IfOk result (λ report. report.verdict ≡ verdict) }
+    ensures named { IfOk result (λ report. report.named ≡ None) }
     ensures text { IfOk result (λ report. (bytes : List ℕ) → StandsFor check.now bytes → IsVerdict bytes verdict → HasTold bytes verdict report.text.items) }
     ensures failed { IfErr result (λ failure. failure ≡ Failure.OutOfMemory) }
 {

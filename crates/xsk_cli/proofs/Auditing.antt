@@ -1,6 +1,5 @@
 -- What the words of an audit ask for, and what is told of a journal that isn't legal.
 use Rattle.std.proofs.Common.{◌≡◌, ℕ, List, [], ◌∷◌, ◌++◌, None, Some, length, refl, ap, subst, ◌∙◌, append_assoc}
-use Rattle.std.specs.Prelude.{codes, is_some}
 use Rattle.xsk_model.specs.Config.{Config}
 use Rattle.xsk_socket.specs.declared.layout.Layout.{Layout}
 use Rattle.xsk_socket.specs.Regular.{regular_of}
@@ -15,16 +14,17 @@ use Rattle.xsk_audit.proofs.OneVerdict.{one-verdict}
 use Rattle.xsk_why.specs.Held.{callers_text}
 use Rattle.xsk_why.specs.Rings.{rings_text}
 use Rattle.xsk_cli.specs.Line.{line_of}
+use Rattle.xsk_cli.specs.Options.{why}
 use Rattle.xsk_cli.specs.Steps.{IsReasonText}
 use Rattle.xsk_cli.specs.declared.status.Status.TheVariants.{NotLegal as EndsNotLegal}
 use Rattle.xsk_args.specs.Meaning.{Meaning}
 use Rattle.xsk_args.specs.Words.{Text}
-use Rattle.xsk_cli.specs.Words.{Plan, audit_plan_by, layout_by, without_files}
+use Rattle.xsk_cli.specs.Words.{Plan, audit_plan_by, is_said, layout_by, without_files}
 use Rattle.xsk_cli.specs.declared.words.Work.TheVariants.{Audit}
 
 -- the plan of words that name one file
 abbrev pub one_plan : Meaning → Text → Plan
-one_plan said file = record { inputs = file ∷ []; outputs = []; work = Audit (without_files (layout_by said)) (is_some (said (codes "why"))) }
+one_plan said file = record { inputs = file ∷ []; outputs = []; work = Audit (without_files (layout_by said)) (is_said said why) }
 
 -- others name none or several
 pub none_by : (said : Meaning) (files : List Text) → ((file : Text) → files ≡ file ∷ [] → ⊥) → audit_plan_by said files ≡ None

@@ -11,11 +11,12 @@ use Rattle.xsk_args.specs.declared.program.Program.{Program}
 use Rattle.xsk_turns.specs.declared.wire.Wire.{Wire}
 use Rattle.xsk_socket.specs.declared.layout.Layout.{Layout}
 use Rattle.xsk_socket.specs.Fits.{IsCount}
-use Rattle.xsk_socket.specs.Layout.{fault_of}
+use Rattle.xsk_socket.specs.Layout.{fault_of, usual}
 use Rattle.xsk_socket.proofs.Accepted.{files_are, fits}
 use Rattle.xsk_cli.specs.Format.{files_of}
 use Rattle.xsk_cli.specs.declared.format.Format.{Format}
 use Rattle.xsk_cli.specs.declared.format.Format.TheVariants.{Pcap, Pcapng}
+use Rattle.xsk_cli.specs.Options as option
 use Rattle.xsk_cli.specs.Words.{Plan, are_enough, are_made, counted, do_go_together, fault_in, go_together, suits_hands, telling_of, files_counted, files_in, format_of, has_files, is_planned, layout_by, inputs_named, manner_of, number_of, number_or, plan_by, plan_of, planned_by, ports_of, programs_of, wanted_per_port, wire_of}
 use Rattle.xsk_cli.specs.Steps.{IsReady}
 use Rattle.xsk_cli.proofs.Making.{few_ports}
@@ -87,7 +88,7 @@ suits_by (Some values) after hands count together =
 
 suits_words : (said : Meaning) → is_planned said ≡ true → fault_of (layout_by said) ≡ None → suits_hands (layout_by said) (manner_of said) ≡ true
 suits_words said planned accepted =
-    suits_by (said (codes "close")) (said (codes "after")) (number_or said (codes "hands") 1) (fits (layout_by said) accepted).hands
+    suits_by (said option.close.0) (said option.after.0) (number_or said option.hands usual.hands) (fits (layout_by said) accepted).hands
     (and_parts (has_files said) (do_go_together said) planned).1
 
 pub plan_ready : (said : Meaning) (plan : Plan) → is_planned said ≡ true → plan ≡ plan_by said → fault_in plan.work ≡ None → IsReady plan
@@ -95,7 +96,7 @@ plan_ready said plan planned is accepted =
     let enough = enough_files said planned in
     let none : fault_of (layout_by said) ≡ None = subst (λ (p : Plan). fault_in p.work ≡ None) is accepted in
     subst IsReady (sym is)
-    (ready_by (layout_by said) (programs_of said) (wire_of said) (manner_of said) (number_or said (codes "order") 0) (number_of said (codes "gen")) (telling_of said) (format_of said) (files_in said) none (suits_words said planned none) (files_named said enough none))
+    (ready_by (layout_by said) (programs_of said) (wire_of said) (manner_of said) (number_or said option.order 0) (number_of said option.gen) (telling_of said) (format_of said) (files_in said) none (suits_words said planned none) (files_named said enough none))
 
 -- the plan of words with as many files as they want, and none of others
 pub has_plan : (said : Meaning) (meant : Option Meaning) → meant ≡ Some said → is_planned said ≡ true → option_and_then planned_by meant ≡ Some (plan_by said)

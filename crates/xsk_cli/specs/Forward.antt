@@ -3,7 +3,7 @@
 use Rattle.std.specs.Prelude.{◌≡◌, ℕ, ◌⊎◌, codes, Bool, false, List, [], ◌∷◌, ◌++◌, length, Option, Some, None, option_and_then, unwrap_or, Result, Ok, Err}
 use Rattle.std.specs.Str.{bytes_eq}
 use Rattle.xsk_args.specs.Words.{Text}
-use Rattle.xsk_args.specs.Meaning.{Key, meaning}
+use Rattle.xsk_args.specs.Meaning.{meaning}
 use Rattle.xsk_io.specs.Bay.{CountsOnly, Moment}
 use Rattle.xsk_io.specs.declared.bay.Kind.{Kind}
 use Rattle.xsk_io.specs.declared.bay.Kind.TheVariants.{Write}
@@ -18,9 +18,10 @@ use Rattle.xsk_cli.specs.Cause.{IsCaused, IsFault}
 use Rattle.xsk_cli.specs.Ends.{Answers, AreTaken, AreTold, ComesOf, EndsBy, IsComplete, NoneRose, behind}
 use Rattle.xsk_cli.specs.Judged.{AreShort, excess_of}
 use Rattle.xsk_cli.specs.Line.{line_of}
+use Rattle.xsk_cli.specs.Options.{of_forward}
 use Rattle.xsk_cli.specs.Outcome.{AreListsOf, AreTextsIn, IsOutcome, Outcome, Written, bad, frames_of, long, made, passed, report_of, setting_of, stalled, illegal, bad_file}
 use Rattle.xsk_cli.specs.Streams.{GotLine, HasLine, IsAtOnce, IsOfLine}
-use Rattle.xsk_cli.specs.Words.{Plan, fault_in, layout_options, most_of, no_plan, planned_by, ports_in, run_options, threads_options}
+use Rattle.xsk_cli.specs.Words.{Plan, fault_in, most_of, no_plan, planned_by, ports_in}
 use Rattle.xsk_cli.specs.declared.threads.Ended.{Ended}
 use Rattle.xsk_cli.specs.declared.words.Work.{Work}
 use Rattle.xsk_cli.specs.declared.words.Work.TheVariants.{Simulate, Generate, Audit}
@@ -29,11 +30,8 @@ use Rattle.xsk_cli.specs.declared.status.Status.TheVariants.{BadCapture, BadPcap
 
 -- ---- the words
 
-abbrev pub forward_options : List Key
-forward_options = layout_options ++ run_options ++ threads_options
-
 abbrev pub forward_plan : List Text → Option Plan
-forward_plan words = option_and_then planned_by (meaning (codes "forward") forward_options words)
+forward_plan words = option_and_then planned_by (meaning (codes "forward") of_forward words)
 
 abbrev pub is_forward : List Text → Bool
 is_forward [] = false
@@ -43,7 +41,7 @@ is_forward (first ∷ rest) = bytes_eq first (codes "forward")
 
 -- the manner of its applications, which change no item
 abbrev pub unmangled : Manner → Manner
-unmangled manner = record { mangle = None; after = manner.after }
+unmangled manner = record manner { mangle = None }
 
 -- work that is a run
 abbrev pub IsRun : Work → Type 0

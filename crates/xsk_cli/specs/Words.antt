@@ -1,19 +1,20 @@
 -- Which words are a command, and what it does. This project's own.
-use Rattle.std.specs.Prelude.{ℕ, codes, Bool, List, [], ◌∷◌, ◌++◌, length, take, drop, Option, None, Some, is_some, option_and_then, option_map, if◌then◌else◌, unwrap_or, nat_le, nat_lt, not, true, ◌==◌, ◌&&◌, ◌||◌}
+use Rattle.std.specs.Prelude.{ℕ, codes, Bool, List, [], ◌∷◌, length, take, drop, Option, None, Some, is_some, option_and_then, option_map, if◌then◌else◌, unwrap_or, nat_le, nat_lt, not, true, ◌==◌, ◌&&◌, ◌||◌}
 use Rattle.std.specs.Str.{bytes_eq}
 use Rattle.xsk_args.specs.Words.{Text, is_dashed}
 use Rattle.xsk_args.specs.Number.{number_in}
 use Rattle.xsk_args.specs.Program.{programs_in}
 use Rattle.xsk_args.specs.declared.program.Program.{Program}
 use Rattle.xsk_args.specs.declared.program.Program.TheVariants.{Redirect}
-use Rattle.xsk_args.specs.Meaning.{Key, Meaning, a_number, a_program, meaning, nothing, one_of, one_value}
+use Rattle.xsk_args.specs.Meaning.{Key, Meaning, meaning, number_said, one_value}
 use Rattle.xsk_turns.specs.declared.manner.Manner.{Manner}
 use Rattle.xsk_turns.specs.declared.wire.Wire.{Wire}
 use Rattle.xsk_turns.specs.declared.wire.Wire.TheVariants.{Wait, Drop as Drops}
 use Rattle.xsk_socket.specs.declared.layout.Layout.{Layout}
 use Rattle.xsk_socket.specs.declared.layout.Unlawful.{Unlawful}
-use Rattle.xsk_socket.specs.Layout.{fault_of}
+use Rattle.xsk_socket.specs.Layout.{fault_of, usual}
 use Rattle.xsk_cli.specs.Format.{files_of, most_input}
+use Rattle.xsk_cli.specs.Options as option
 use Rattle.xsk_cli.specs.declared.format.Format.{Format}
 use Rattle.xsk_cli.specs.declared.format.Format.TheVariants.{Pcap, Pcapng}
 use Rattle.xsk_cli.specs.declared.words.Telling.{Telling}
@@ -29,69 +30,21 @@ pub record Plan : Type 0 where
 abbrev pub no_plan : Plan
 no_plan = record { inputs = []; outputs = []; work = Generate 0 }
 
--- ---- the options
-
--- those that make the configuration
-abbrev pub layout_options : List Key
-layout_options =
-    (codes "ports", a_number)
-    ∷ (codes "queues", a_number)
-    ∷ (codes "sockets", a_number)
-    ∷ (codes "frames", a_number)
-    ∷ (codes "chunk", a_number)
-    ∷ (codes "headroom", a_number)
-    ∷ (codes "rx", a_number)
-    ∷ (codes "tx", a_number)
-    ∷ (codes "fill", a_number)
-    ∷ (codes "comp", a_number)
-    ∷ (codes "empty", a_number)
-    ∷ (codes "close", a_number)
-    ∷ (codes "sg", nothing)
-    ∷ (codes "wakeup", nothing)
-    ∷ []
-
--- those of a run
-abbrev pub run_options : List Key
-run_options =
-    (codes "gen", a_number)
-    ∷ (codes "prog", a_program)
-    ∷ (codes "wire", one_of (codes "wait" ∷ codes "drop" ∷ []))
-    ∷ (codes "after", a_number)
-    ∷ (codes "pcapng", nothing)
-    ∷ []
-
--- those of a run in rounds
-abbrev pub rounds_options : List Key
-rounds_options =
-    (codes "order", a_number)
-    ∷ (codes "mangle", a_number)
-    ∷ (codes "journal", nothing)
-    ∷ (codes "why", nothing)
-    ∷ []
-
--- that of an audit
-abbrev pub why_options : List Key
-why_options = (codes "why", nothing) ∷ []
-
--- those of a run on threads
-abbrev pub threads_options : List Key
-threads_options = (codes "hands", a_number) ∷ []
-
 -- ---- `simulate`
 
-abbrev pub options : List Key
-options = layout_options ++ run_options ++ rounds_options
+-- the number that was said of an option, or the one that stands where none was
+abbrev pub number_of : Meaning → Key → Option ℕ
+number_of said key = number_said said key.0
 
--- the number that was said under a name, or the one that stands where none was said
-abbrev pub number_of : Meaning → Text → Option ℕ
-number_of said name = option_and_then number_in (one_value (said name))
+abbrev pub number_or : Meaning → Key → ℕ → ℕ
+number_or said key standing = unwrap_or (number_of said key) standing
 
-abbrev pub number_or : Meaning → Text → ℕ → ℕ
-number_or said name standing = unwrap_or (number_of said name) standing
+abbrev pub is_said : Meaning → Key → Bool
+is_said said key = is_some (said key.0)
 
 -- the programs that were said, or the one that redirects each packet
 abbrev pub programs_of : Meaning → List Program
-programs_of said = unwrap_or (option_and_then programs_in (one_value (said (codes "prog")))) (Redirect ∷ [])
+programs_of said = unwrap_or (option_and_then programs_in (one_value (said option.prog.0))) (Redirect ∷ [])
 
 -- what the wire does with a packet that finds too few frames on FILL or no room on RX (af_xdp.rst, "XDP_STATISTICS
 -- getsockopt": rx_dropped, rx_ring_full; that it may wait is this project's own): it drops it where `drop` was said, and else waits
@@ -100,18 +53,18 @@ wire_named None = Wait
 wire_named (Some word) = if bytes_eq word (codes "drop") then Drops else Wait
 
 abbrev pub wire_of : Meaning → Wire
-wire_of said = wire_named (one_value (said (codes "wire")))
+wire_of said = wire_named (one_value (said option.wire.0))
 
 abbrev pub files_in : Meaning → List Text
 files_in said = unwrap_or (said (codes "FILE")) []
 
 -- whether the packets are made, so that no inputs are named
 abbrev pub are_made : Meaning → Bool
-are_made said = is_some (number_of said (codes "gen"))
+are_made said = is_some (number_of said option.gen)
 
 -- the format that was said
 abbrev pub format_of : Meaning → Format
-format_of said = if is_some (said (codes "pcapng")) then Pcapng else Pcap
+format_of said = if is_said said option.pcapng then Pcapng else Pcap
 
 -- a number of files, where it has 32 bits
 abbrev pub counted : ℕ → ℕ
@@ -119,7 +72,7 @@ counted n = if nat_lt n 4294967296 then n else 4294967295
 
 -- the ports of a command
 abbrev pub ports_of : Meaning → ℕ
-ports_of said = number_or said (codes "ports") 2
+ports_of said = number_or said option.ports usual.ports
 
 -- how many files are counted for the layout, and how many it wants for each port. The one file of pcapng and its one output
 -- are no port's, so none is wanted
@@ -138,22 +91,22 @@ wanted_per_port Pcapng made = 0
 abbrev pub layout_by : Meaning → Layout
 layout_by said = record {
   ports = ports_of said;
-  queues = number_or said (codes "queues") 1;
-  sockets = number_or said (codes "sockets") 1;
+  queues = number_or said option.queues usual.queues;
+  sockets = number_or said option.sockets usual.sockets;
   files = files_counted (format_of said) (length (files_in said));
   files_wanted_per_port = wanted_per_port (format_of said) (are_made said);
-  chunk = number_or said (codes "chunk") 4096;
-  headroom = number_or said (codes "headroom") 0;
-  frames = number_or said (codes "frames") 256;
-  rx = number_or said (codes "rx") 2048;
-  tx = number_or said (codes "tx") 2048;
-  fill = number_or said (codes "fill") 2048;
-  comp = number_or said (codes "comp") 2048;
-  sg = is_some (said (codes "sg"));
-  wakeup = is_some (said (codes "wakeup"));
-  empty = number_of said (codes "empty");
-  close = number_of said (codes "close");
-  hands = number_or said (codes "hands") 1;
+  chunk = number_or said option.chunk usual.chunk;
+  headroom = number_or said option.headroom usual.headroom;
+  frames = number_or said option.frames usual.frames;
+  rx = number_or said option.rx usual.rx;
+  tx = number_or said option.tx usual.tx;
+  fill = number_or said option.fill usual.fill;
+  comp = number_or said option.comp usual.comp;
+  sg = is_said said option.sg;
+  wakeup = is_said said option.wakeup;
+  empty = number_of said option.empty;
+  close = number_of said option.close;
+  hands = number_or said option.hands usual.hands;
 }
 
 -- the files are an input for each port, or one of pcapng, but where the packets are made, and then as many outputs
@@ -162,17 +115,17 @@ inputs_named said = if are_made said then 0 else files_of (format_of said) (port
 
 -- what the applications change of what they send, and after how many packets of its RX a socket is closed: this project's own
 abbrev pub manner_of : Meaning → Manner
-manner_of said = record { mangle = number_of said (codes "mangle"); after = number_or said (codes "after") 0 }
+manner_of said = record { mangle = number_of said option.mangle; after = number_or said option.after 0 }
 
 -- what is told of a run in rounds besides its figures
 abbrev pub telling_of : Meaning → Telling
-telling_of said = record { journal = is_some (said (codes "journal")); why = is_some (said (codes "why")) }
+telling_of said = record { journal = is_said said option.journal; why = is_said said option.why }
 
 abbrev pub plan_by : Meaning → Plan
 plan_by said = record {
   inputs = take (inputs_named said) (files_in said);
   outputs = drop (inputs_named said) (files_in said);
-  work = Simulate (layout_by said) (programs_of said) (wire_of said) (manner_of said) (number_or said (codes "order") 0) (number_of said (codes "gen")) (telling_of said) (format_of said);
+  work = Simulate (layout_by said) (programs_of said) (wire_of said) (manner_of said) (number_or said option.order 0) (number_of said option.gen) (telling_of said) (format_of said);
 }
 
 -- with pcapng there are two files, or one where the packets are made
@@ -188,7 +141,7 @@ abbrev pub go_together : Bool → Bool → ℕ → Bool
 go_together closes after hands = if closes then nat_le hands 1 else not after
 
 abbrev pub do_go_together : Meaning → Bool
-do_go_together said = go_together (is_some (said (codes "close"))) (is_some (said (codes "after"))) (number_or said (codes "hands") 1)
+do_go_together said = go_together (is_said said option.close) (is_said said option.after) (number_or said option.hands usual.hands)
 
 abbrev pub is_planned : Meaning → Bool
 is_planned said = has_files said && do_go_together said
@@ -197,7 +150,7 @@ abbrev pub planned_by : Meaning → Option Plan
 planned_by said = if is_planned said then Some (plan_by said) else None
 
 abbrev pub simulate_plan : List Text → Option Plan
-simulate_plan words = option_and_then planned_by (meaning (codes "simulate") options words)
+simulate_plan words = option_and_then planned_by (meaning (codes "simulate") option.of_simulate words)
 
 -- ---- `gen`
 
@@ -214,16 +167,13 @@ gen_plan _ = None
 abbrev pub without_files : Layout → Layout
 without_files layout = record layout { files = 0; files_wanted_per_port = 0 }
 
-abbrev pub audit_options : List Key
-audit_options = layout_options ++ why_options
-
 -- the one file is the journal
 abbrev pub audit_plan_by : Meaning → List Text → Option Plan
-audit_plan_by said (file ∷ []) = Some (record { inputs = file ∷ []; outputs = []; work = Audit (without_files (layout_by said)) (is_some (said (codes "why"))) })
+audit_plan_by said (file ∷ []) = Some (record { inputs = file ∷ []; outputs = []; work = Audit (without_files (layout_by said)) (is_said said option.why) })
 audit_plan_by said _ = None
 
 abbrev pub audit_plan : List Text → Option Plan
-audit_plan words = option_and_then (λ said. audit_plan_by said (files_in said)) (meaning (codes "audit") audit_options words)
+audit_plan words = option_and_then (λ said. audit_plan_by said (files_in said)) (meaning (codes "audit") option.of_audit words)
 
 -- ---- all
 

@@ -12,7 +12,7 @@ use crate::Status;
 use crate::chain::Chained;
 use crate::failure::{Refusal, RunFailure};
 use crate::misfit::explain_misfit;
-use crate::options::{AUDIT, LAYOUT};
+use crate::options::{AUDIT, WHY_ILLEGAL};
 use crate::setup::set_up;
 use crate::texts::{Outputs, Texts};
 use crate::words::{Plan, Work, layout_of};
@@ -30,7 +30,7 @@ pub(crate) fn run_audit<B: Bay>(alloc: Global, words: &[String], bay: &mut B) ->
     requires { NoneOpen (B.moment bay.old) }
     ensures { Comes (audit_plan (map string_bytes words.now)) (B.moment bay.old) (B.moment bay.new) result }
 {
-    let args = parse(alloc, "audit", &[&LAYOUT, &AUDIT], words)?;
+    let args = parse(alloc, "audit", AUDIT, words)?;
     audit_said(alloc, &args, bay)
 }
 
@@ -43,7 +43,7 @@ fn audit_said<B: Bay>(alloc: Global, args: &Args<'_>, bay: &mut B) -> Result<(),
         return Err(Refusal::Bare(Status::Usage));
     };
     let layout = audited_layout(args)?;
-    audit_file(alloc, file, layout, args.is_said("why"), bay)
+    audit_file(alloc, file, layout, args.is_said(&WHY_ILLEGAL), bay)
 }
 
 /// Audits the journal of a file by an accepted layout.

@@ -1,4 +1,5 @@
-//! The line that tells a refusal, in a buffer of its own.
+//! The line that tells a refusal, in a buffer of its own. The words are those of `specs/Line`: a line that scripts read
+//! changes there first.
 ghost use Rattle.std.specs.Prelude.{◌≡◌, ◌+◌, ◌≤◌, ◌++◌, length};
 ghost use Rattle.std.specs.Fmt.{decimal};
 ghost use Rattle.arrayvec.specs.ArrayString.{array_string_len};

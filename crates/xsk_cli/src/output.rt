@@ -1,4 +1,5 @@
-//! The outputs of a command, and its report.
+//! The outputs of a command, and its report. No output is opened before each text is made, and the report comes last
+//! (`specs/Streams`).
 ghost use Rattle.std.specs.Prelude.{◌≡◌, ℕ, ◌<◌, ◌≤◌, ◌∷◌, [], false, length, map, IfErr, OnOk};
 ghost use Rattle.std.specs.List.{slice_index_or};
 ghost use Rattle.xsk_pcap.specs.Written.{IsWritable};

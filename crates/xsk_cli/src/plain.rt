@@ -15,7 +15,7 @@ use crate::audit::run_audit;
 use crate::chain::Chained;
 use crate::failure::Refusal;
 use crate::line::line;
-use crate::options::{LAYOUT, ROUNDS, RUN};
+use crate::options::SIMULATE;
 use crate::rounds::run_in_rounds;
 use crate::words::{Plan, Work, check_words, read_gen};
 use crate::work::do_without_run;
@@ -102,7 +102,7 @@ fn run_simulate<B: Bay>(alloc: Global, words: &[String], bay: &mut B) -> Result<
     requires { NoneOpen (B.moment bay.old) }
     ensures { Comes (simulate_plan (map string_bytes words.now)) (B.moment bay.old) (B.moment bay.new) result }
 {
-    let args = parse(alloc, "simulate", &[&LAYOUT, &RUN, &ROUNDS], words)?;
+    let args = parse(alloc, "simulate", SIMULATE, words)?;
     check_words(&args)?;
     let plan = Plan::of(&args)?;
     let Chained {

@@ -1,4 +1,5 @@
-//! How a command ends.
+//! How a command ends. The numbers are those of `specs/ExitStatus`; `docs/USAGE.md` has them, and they never change
+//! their meaning.
 ghost use Rattle.std.specs.Prelude.{◌≡◌};
 ghost use Rattle.xsk_cli.specs.ExitStatus.{exit_status_of};
 

@@ -11,7 +11,7 @@ ghost use Rattle.xsk_cli.specs.Words.{plan_of};
 
 use crate::Status;
 use crate::chain::Chained;
-use crate::options::{LAYOUT, RUN, THREADS};
+use crate::options::FORWARD;
 use crate::plain::{run_plain, status_of, tell};
 use crate::shown::run_on_threads;
 use crate::thread_run::ThreadRun;
@@ -124,7 +124,7 @@ fn forward_words<R: Threads + Wait + Sync, B: Bay, G: Gate + Sync>(
     ensures { ComesTo (λ work. ComesShown work (ended_in result).outcome) (planned_by (map string_bytes words.now)) (B.moment bay.old) (B.moment bay.new)
         (ended_in result).status (line_of (ended_in result).status) }
 {
-    let args = parse(alloc, "forward", &[&LAYOUT, &RUN, &THREADS], words)?;
+    let args = parse(alloc, "forward", FORWARD, words)?;
     check_words(&args)?;
     let plan = Plan::of(&args)?;
     let Chained { result, left } = run_on_threads(rt, alloc, &plan, bay, gate);

@@ -8,6 +8,7 @@ ghost use Rattle.xsk_cli.specs.Steps.{plan_in};
 ghost use Rattle.xsk_cli.specs.Words.{are_enough, counted, do_go_together, fault_in, files_counted, files_in, format_of, gen_plan, go_together, has_files, is_planned, layout_by, manner_of, most_of, plan_by, programs_of as programs_said, telling_of, wanted_per_port, wire_of};
 
 use crate::format::Format;
+use crate::options;
 use xsk_args::{Args, ArgsError, Program, ProgramList, parse_number};
 use xsk_socket::{Layout, Unlawful, check_layout};
 use xsk_turns::{Manner, Wire};
@@ -87,8 +88,8 @@ impl<'p, 'w> Plan<'p, 'w> {
         };
         let programs = programs_of(args);
         let wire = wire_of(args);
-        let order = args.number("order").unwrap_or(0);
-        let number = args.number("gen");
+        let order = args.number_or_usual(&options::ORDER);
+        let number = args.number(&options::GEN);
         let format = format_said(args);
         let named = count_inputs(format, number.is_some(), layout.ports);
         let (inputs, outputs) = files.split_at(named as usize);
@@ -113,7 +114,7 @@ impl<'p, 'w> Plan<'p, 'w> {
 fn programs_of(args: &Args<'_>) -> ProgramList
     ensures { result ≡ programs_said (under args.now) }
 {
-    match args.programs("prog") {
+    match args.programs(&options::PROG) {
         Some(programs) => programs,
         None => ProgramList::one(Program::Redirect),
     }
@@ -123,7 +124,7 @@ fn programs_of(args: &Args<'_>) -> ProgramList
 fn wire_of(args: &Args<'_>) -> Wire
     ensures { result ≡ wire_of (under args.now) }
 {
-    match args.text("wire") {
+    match args.text(&options::WIRE) {
         Some("drop") => Wire::Drop,
         _ => Wire::Wait,
     }
@@ -133,7 +134,7 @@ fn wire_of(args: &Args<'_>) -> Wire
 fn format_said(args: &Args<'_>) -> Format
     ensures { result ≡ format_of (under args.now) }
 {
-    if args.is_said("pcapng") {
+    if args.is_said(&options::PCAPNG) {
         Format::Pcapng
     } else {
         Format::Pcap
@@ -145,8 +146,8 @@ fn manner_of(args: &Args<'_>) -> Manner
     ensures { result ≡ manner_of (under args.now) }
 {
     Manner {
-        mangle: args.number("mangle"),
-        after: args.number("after").unwrap_or(0),
+        mangle: args.number(&options::MANGLE),
+        after: args.number_or_usual(&options::AFTER),
     }
 }
 
@@ -155,8 +156,8 @@ fn telling_of(args: &Args<'_>) -> Telling
     ensures { result ≡ telling_of (under args.now) }
 {
     Telling {
-        journal: args.is_said("journal"),
-        why: args.is_said("why"),
+        journal: args.is_said(&options::JOURNAL),
+        why: args.is_said(&options::WHY),
     }
 }
 
@@ -177,15 +178,19 @@ pub(crate) fn check_words(args: &Args<'_>) -> Result<(), ArgsError>
 fn has_files(args: &Args<'_>) -> bool
     ensures { result ≡ has_files (under args.now) }
 {
-    let made = args.number("gen").is_some();
+    let made = args.number(&options::GEN).is_some();
     is_enough(format_said(args), made, number_of_files(args))
 }
 
 fn do_go_together(args: &Args<'_>) -> bool
     ensures { result ≡ do_go_together (under args.now) }
 {
-    let hands = args.number("hands").unwrap_or(1);
-    go_together(args.is_said("close"), args.is_said("after"), hands)
+    let hands = args.number_or_usual(&options::HANDS);
+    go_together(
+        args.is_said(&options::CLOSE),
+        args.is_said(&options::AFTER),
+        hands,
+    )
 }
 
 /// Whether a number of items is said of a socket that is closed alone, and the application that closes one is one thread.
@@ -211,23 +216,23 @@ pub(crate) fn layout_of(args: &Args<'_>) -> Layout
 {
     let format = format_said(args);
     Layout {
-        ports: args.number("ports").unwrap_or(2),
-        queues: args.number("queues").unwrap_or(1),
-        sockets: args.number("sockets").unwrap_or(1),
+        ports: args.number_or_usual(&options::PORTS),
+        queues: args.number_or_usual(&options::QUEUES),
+        sockets: args.number_or_usual(&options::SOCKETS),
         files: count_files(format, args),
-        files_wanted_per_port: count_wanted(format, args.number("gen").is_some()),
-        chunk: args.number("chunk").unwrap_or(4096),
-        headroom: args.number("headroom").unwrap_or(0),
-        frames: args.number("frames").unwrap_or(256),
-        rx: args.number("rx").unwrap_or(2048),
-        tx: args.number("tx").unwrap_or(2048),
-        fill: args.number("fill").unwrap_or(2048),
-        comp: args.number("comp").unwrap_or(2048),
-        sg: args.is_said("sg"),
-        wakeup: args.is_said("wakeup"),
-        empty: args.number("empty"),
-        close: args.number("close"),
-        hands: args.number("hands").unwrap_or(1),
+        files_wanted_per_port: count_wanted(format, args.number(&options::GEN).is_some()),
+        chunk: args.number_or_usual(&options::CHUNK),
+        headroom: args.number_or_usual(&options::HEADROOM),
+        frames: args.number_or_usual(&options::FRAMES),
+        rx: args.number_or_usual(&options::RX),
+        tx: args.number_or_usual(&options::TX),
+        fill: args.number_or_usual(&options::FILL),
+        comp: args.number_or_usual(&options::COMP),
+        sg: args.is_said(&options::SG),
+        wakeup: args.is_said(&options::WAKEUP),
+        empty: args.number(&options::EMPTY),
+        close: args.number(&options::CLOSE),
+        hands: args.number_or_usual(&options::HANDS),
     }
 }
 

@@ -1,4 +1,5 @@
-//! Which descriptors are valid, the fault of those that aren't, and the number of pieces of a packet.
+//! Which descriptors are valid, the fault of those that aren't, and the number of pieces of a packet. The checks, in
+//! their order, are those of `specs/Fault`; machines and engines judge by no others.
 ghost use Rattle.std.specs.Prelude.{◌≡◌, ℕ, ◌≤◌, ◌%◌, List, length, is_ok};
 ghost use Rattle.std.specs.Int.{div_ceil};
 ghost use Rattle.std.specs.Result.{result_err};

@@ -1,4 +1,5 @@
-//! Items put together into packets.
+//! Items put together into packets. Who puts packets together does it by this file; which packets a list of items has is
+//! said in `xsk_model/specs/Packets`.
 ghost use Rattle.std.specs.Prelude.{◌≡◌, ◌≤◌, List, [], ◌∷◌, ◌++◌, length, option_to_list};
 ghost use Rattle.xsk_umem.specs.Geometry.{Geometry as Numbers};
 ghost use Rattle.xsk_umem.specs.declared.batch.Item.{Item as AnItem};

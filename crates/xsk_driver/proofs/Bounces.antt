@@ -1,7 +1,6 @@
 -- What is sent as the driver's machine gives a call: the packet that the call counts as bounced, and else none beside those that it
 -- completes.
 use Rattle.std.proofs.Common.{◌≡◌, ℕ, Bool, true, false, cond, List, [], ◌∷◌, ◌++◌, refl, sym, ap, ◌∙◌, subst, append_assoc, append-nil}
-use Rattle.xsk_turns.proofs.Calls.{Call}
 use Rattle.xsk_model.specs.Packets.{bytes_of}
 use Rattle.std.specs.List.{slice_index_or}
 use Rattle.xsk_model.specs.declared.call.Act.TheVariants.{Call as Gave}
@@ -21,20 +20,20 @@ counts_none : (wait : Wait) → (wait ≡ TellBounced → ⊥) → counts_bounce
 counts_none TellBounced other = absurd (other refl)
 counts_none wait other = refl
 
--- a call that doesn't
-pub sends_other : (old now : Machine) (call : Call) → (now.wait ≡ TellBounced → ⊥) → is_bouncing call ≡ counts_bounced now.wait → SendsBy old now (Gave call) → SendsAll old now (Gave call)
-sends_other old now call other counts sends packets before =
-    let completed : List (List ℕ) = sent_by (seat_in old) (kept_in old) (Gave call) in
+-- a call that doesn't, or none
+pub sends_other : (old now : Machine) (act : Act) → (now.wait ≡ TellBounced → ⊥) → counts_by act ≡ counts_bounced now.wait → SendsBy old now act → SendsAll old now act
+sends_other old now act other counts sends packets before =
+    let completed : List (List ℕ) = sent_by (seat_in old) (kept_in old) act in
     subst (λ (b : Bool). Sends (sent_in now) (packets ++ (completed ++ (cond b ((first (kept_in now)).bytes ∷ []) [])))) (sym (counts ∙ counts_none now.wait other))
     (subst (λ (ps : List (List ℕ)). Sends (sent_in now) (packets ++ ps)) (sym (append-nil completed)) (sends packets before))
 
 -- one that does: its packet is appended behind what the call completes
-pub sends_bounced : (old mid now : Machine) (call : Call) (bytes : List ℕ) → mid.wait ≡ TellBounced → is_bouncing call ≡ counts_bounced mid.wait → kept_in now ≡ kept_in mid
-    → bytes ≡ (first (kept_in mid)).bytes → SendsBy old mid (Gave call) → ((packets : List (List ℕ)) → Sends (sent_in mid) packets → Sends (sent_in now) (packets ++ bytes ∷ [])) → SendsAll old now (Gave call)
-sends_bounced old mid now call bytes is counts same packet sends adds packets before =
-    let completed : List (List ℕ) = sent_by (seat_in old) (kept_in old) (Gave call) in
-    let bounces : is_bouncing call ≡ true = counts ∙ ap counts_bounced is in
-    let all : bounced_by (kept_in now) (Gave call) ≡ bytes ∷ [] =
+pub sends_bounced : (old mid now : Machine) (act : Act) (bytes : List ℕ) → mid.wait ≡ TellBounced → counts_by act ≡ counts_bounced mid.wait → kept_in now ≡ kept_in mid
+    → bytes ≡ (first (kept_in mid)).bytes → SendsBy old mid act → ((packets : List (List ℕ)) → Sends (sent_in mid) packets → Sends (sent_in now) (packets ++ bytes ∷ [])) → SendsAll old now act
+sends_bounced old mid now act bytes is counts same packet sends adds packets before =
+    let completed : List (List ℕ) = sent_by (seat_in old) (kept_in old) act in
+    let bounces : counts_by act ≡ true = counts ∙ ap counts_bounced is in
+    let all : bounced_by (kept_in now) act ≡ bytes ∷ [] =
     ap (λ (b : Bool). cond b ((first (kept_in now)).bytes ∷ []) []) bounces ∙ ap (λ (k : Kept). (first k).bytes ∷ []) same ∙ ap (λ (p : List ℕ). p ∷ []) (sym packet) in
     subst (λ (ps : List (List ℕ)). Sends (sent_in now) (packets ++ (completed ++ ps))) (sym all)
     (subst (λ (ps : List (List ℕ)). Sends (sent_in now) ps) (append_assoc packets completed (bytes ∷ [])) (adds (packets ++ completed) (sends packets before)))

@@ -1,5 +1,7 @@
-//! Bytes that are read before they're wanted, many at once. A processor waits for a line that another one wrote, and where a byte is
-//! wanted, between two exchanges, it waits for each line alone; read one behind the other they come side by side.
+//! Bytes that are read before they're wanted, many at once. A processor waits for a line that another one wrote, and
+//! where a byte is wanted, between two exchanges, it waits for each line alone; read one behind the other they come side
+//! by side. Nothing hangs on what is read and written here, and by its contracts all stays as it was: it is for time
+//! alone.
 ghost use Rattle.std.specs.Prelude.{◌≡◌, ◌*◌, ◌≤◌, length};
 
 use crate::outbox::Outbox;

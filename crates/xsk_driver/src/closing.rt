@@ -16,7 +16,7 @@ impl<'a> Machine<'a> {
 
     /// Begins a turn of a driver that isn't parked.
     #[tactic(auto, using(crate::proofs::Steps::awake_receives, crate::proofs::Steps::awake_looks))]
-    pub(crate) fn begin_awake(&mut self, asked: &mut Ask)
+    pub(crate) fn begin_awake(&mut self, asked: &mut Option<Ask>)
         requires awake { (kept_in self.old).parked ≡ None }
         ensures gives { Gives self.old self.new asked.new }
         ensures goes { GoesOnAsk (seat_in self.old) self.new asked.new (again (kept_in self.old)) }
@@ -24,7 +24,7 @@ impl<'a> Machine<'a> {
         match self.unacknowledged() {
             Some(socket) => {
                 self.wait = Wait::LookClosing { socket };
-                *asked = Ask::Look(Mark::Closing(socket));
+                *asked = Some(Ask::Look(Mark::Closing(socket)));
             }
             None => self.begin_receiving(asked),
         }
@@ -44,20 +44,20 @@ impl<'a> Machine<'a> {
     }
 
     /// Goes on by the mark that tells whether the socket is closed.
-    pub(crate) fn learn_closing(&mut self, socket: u32, closed: u64, asked: &mut Ask)
+    pub(crate) fn learn_closing(&mut self, socket: u32, closed: u64, asked: &mut Option<Ask>)
         ensures gives { Gives self.old self.new asked.new }
         ensures goes { GoesOnAsk (seat_in self.old) self.new asked.new (if closed == 1 then ask (kept_in self.old) (Swap (Acked socket) 1) (on_old (λ _. receive (seat_in self.old) (kept_in self.old).coming fresh (with_acked (kept_in self.old)))) else receive (seat_in self.old) (kept_in self.old).coming fresh (kept_in self.old)) }
     {
         if closed == 1 {
             self.wait = Wait::TellAcked;
-            *asked = Ask::Swap(Mark::Acked(socket), 1);
+            *asked = Some(Ask::Swap(Mark::Acked(socket), 1));
         } else {
             self.begin_receiving(asked);
         }
     }
 
     /// Goes on once it has acknowledged.
-    pub(crate) fn go_on_acknowledged(&mut self, asked: &mut Ask)
+    pub(crate) fn go_on_acknowledged(&mut self, asked: &mut Option<Ask>)
         ensures gives { Gives self.old self.new asked.new }
         ensures goes { GoesOnAsk (seat_in self.old) self.new asked.new (receive (seat_in self.old) (kept_in self.old).coming fresh (with_acked (kept_in self.old))) }
     {

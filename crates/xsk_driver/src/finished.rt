@@ -1,4 +1,5 @@
-//! The packets that a driver put together and didn't complete yet.
+//! The packets that a driver put together and didn't complete yet. Items and lengths change together: the lengths cut
+//! the items into whole packets (`specs/Finished`, the invariant).
 ghost use Rattle.std.specs.Prelude.{◌≡◌, ℕ, ◌+◌, List, [], ◌∷◌, ◌++◌, ◌<◌, ◌≤◌, length, map, flat_map, take, drop, false, IfOk, MatchOption};
 ghost use Rattle.std.specs.List.{slice_index_or};
 ghost use Rattle.std.specs.VecDeque.{deque_capacity};

@@ -1,4 +1,5 @@
-//! The packets that a driver sent, in room that was taken at the start.
+//! The packets that a driver sent, in room that was taken at the start. No packet takes memory: what finds no room is
+//! left out, and `overrun` tells so.
 ghost use Rattle.std.specs.Prelude.{◌≡◌, ℕ, ◌+◌, ◌*◌, ◌<◌, ◌≤◌, ◌∷◌, ◌++◌, [], List, Some, false, length, All, IfOk};
 ghost use Rattle.std.specs.List.{concat};
 ghost use Rattle.xsk_driver.specs.SentRoom.{IsShort, last_length, sent_gaps, Sends};

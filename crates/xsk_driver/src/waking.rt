@@ -16,21 +16,21 @@ impl<'a> Machine<'a> {
     ghost use Rattle.xsk_model.specs.declared.call.Call.TheVariants.{Swap};
 
     /// Sets its flags: FILL's where it waits for frames, and that of each class's TX ring.
-    pub(crate) fn arm(&mut self, asked: &mut Ask)
+    pub(crate) fn arm(&mut self, asked: &mut Option<Ask>)
         requires arming { IsArming (seat_in self.old) (noted_in self.old) (kept_in self.old) 0 }
         ensures gives { Gives self.old self.new asked.new }
         ensures goes { GoesOnAsk (seat_in self.old) self.new asked.new (flag_all (seat_in self.old) (awaits (noted_in self.old)) 1 (kept_in self.old) (look_again_script (seat_in self.old) (noted_in self.old) (kept_in self.old))) }
     {
         if self.turn.lacking > 0 {
             self.wait = Wait::Arm { class: 0 };
-            *asked = Ask::Swap(Mark::NeedFill(self.pair), 1);
+            *asked = Some(Ask::Swap(Mark::NeedFill(self.pair), 1));
         } else {
             self.arm_tx(0, asked);
         }
     }
 
     /// Sets the flag of the class's TX ring, or looks again after the last one.
-    pub(crate) fn arm_tx(&mut self, class: u32, asked: &mut Ask)
+    pub(crate) fn arm_tx(&mut self, class: u32, asked: &mut Option<Ask>)
         requires arming { IsArming (seat_in self.old) (noted_in self.old) (kept_in self.old) class }
         ensures gives { Gives self.old self.new asked.new }
         ensures goes { GoesOnAsk (seat_in self.old) self.new asked.new (flag_from (seat_in self.old) 1 class (kept_in self.old) (look_again_script (seat_in self.old) (noted_in self.old) (kept_in self.old))) }
@@ -39,12 +39,12 @@ impl<'a> Machine<'a> {
             self.look_again(asked);
         } else {
             self.wait = Wait::Arm { class: class + 1 };
-            *asked = Ask::Swap(Mark::NeedTx(self.socket_of(class)), 1);
+            *asked = Some(Ask::Swap(Mark::NeedTx(self.socket_of(class)), 1));
         }
     }
 
     /// Looks a second time: at FILL where it waits for frames, and at each class's TX ring.
-    fn look_again(&mut self, asked: &mut Ask)
+    fn look_again(&mut self, asked: &mut Option<Ask>)
         requires arming { IsArming (seat_in self.old) (noted_in self.old) (kept_in self.old) self.old.classes }
         ensures gives { Gives self.old self.new asked.new }
         ensures goes { GoesOnAsk (seat_in self.old) self.new asked.new (look_again_script (seat_in self.old) (noted_in self.old) (kept_in self.old)) }
@@ -55,14 +55,14 @@ impl<'a> Machine<'a> {
                 class: 0,
             };
             self.wait = Wait::PeekFill { next };
-            *asked = Ask::Peek(Ring::Fill(self.pair), self.turn.lacking);
+            *asked = Some(Ask::Peek(Ring::Fill(self.pair), self.turn.lacking));
         } else {
             self.look_tx(0, asked);
         }
     }
 
     /// Looks at the class's TX ring, or goes on after the last one. Nothing is completed before the look has ended.
-    pub(crate) fn look_tx(&mut self, class: u32, asked: &mut Ask)
+    pub(crate) fn look_tx(&mut self, class: u32, asked: &mut Option<Ask>)
         requires looked { IsLooked (seat_in self.old) (kept_in self.old) class }
         ensures gives { Gives self.old self.new asked.new }
         ensures goes { GoesOnAsk (seat_in self.old) self.new asked.new (look_from (seat_in self.old) class (noted_in self.old) (kept_in self.old)) }
@@ -76,7 +76,7 @@ impl<'a> Machine<'a> {
 
     /// Ends the second look: clears its flags where it gave items, and else parks, once it knows that the application may still
     /// send.
-    fn settle_down(&mut self, asked: &mut Ask)
+    fn settle_down(&mut self, asked: &mut Option<Ask>)
         ensures gives { Gives self.old self.new asked.new }
         ensures goes { GoesOnAsk (seat_in self.old) self.new asked.new (settle_script (seat_in self.old) (noted_in self.old) (kept_in self.old)) }
     {
@@ -84,14 +84,14 @@ impl<'a> Machine<'a> {
             self.disarm(self.turn.lacking > 0, asked);
         } else if self.rx_done {
             self.wait = Wait::LookEnd;
-            *asked = self.look_at_end();
+            *asked = Some(self.look_at_end());
         } else {
             self.park(asked);
         }
     }
 
     /// Goes on by the mark that tells whether the application sends nothing more.
-    pub(crate) fn learn_end(&mut self, done: u64, asked: &mut Ask)
+    pub(crate) fn learn_end(&mut self, done: u64, asked: &mut Option<Ask>)
         ensures gives { Gives self.old self.new asked.new }
         ensures goes { GoesOnAsk (seat_in self.old) self.new asked.new (if done == 1 then disarm_script (seat_in self.old) (awaits (noted_in self.old)) (record (kept_in self.old) { tx_done = true }) else park_script (awaits (noted_in self.old)) (kept_in self.old)) }
     {
@@ -104,7 +104,7 @@ impl<'a> Machine<'a> {
     }
 
     /// Is parked: from now on it looks at its kick.
-    fn park(&mut self, asked: &mut Ask)
+    fn park(&mut self, asked: &mut Option<Ask>)
         ensures gives { Gives self.old self.new asked.new }
         ensures goes { GoesOnAsk (seat_in self.old) self.new asked.new (park_script (awaits (noted_in self.old)) (kept_in self.old)) }
     {
@@ -112,43 +112,43 @@ impl<'a> Machine<'a> {
         self.begin(asked);
     }
 
-    pub(crate) fn look_kick(&mut self, frames: bool, asked: &mut Ask)
+    pub(crate) fn look_kick(&mut self, frames: bool, asked: &mut Option<Ask>)
         ensures gives { Gives self.old self.new asked.new }
         ensures goes { GoesOnAsk (seat_in self.old) self.new asked.new (look_kick_script (seat_in self.old) frames (kept_in self.old)) }
     {
         self.wait = Wait::LookKick { frames };
-        *asked = Ask::Look(Mark::Kick(self.pair));
+        *asked = Some(Ask::Look(Mark::Kick(self.pair)));
     }
 
     /// Goes on by its kick: clears it where it was kicked, and else looks again.
-    pub(crate) fn go_on_kicked(&mut self, frames: bool, kick: u64, asked: &mut Ask)
+    pub(crate) fn go_on_kicked(&mut self, frames: bool, kick: u64, asked: &mut Option<Ask>)
         ensures gives { Gives self.old self.new asked.new }
         ensures goes { GoesOnAsk (seat_in self.old) self.new asked.new (if kick == 1 then ask (woken (kept_in self.old)) (Swap (Kick self.old.pair) 0) (on_old (λ _. disarm_script (seat_in self.old) frames (woken (kept_in self.old)))) else again (kept_in self.old)) }
     {
         if kick == 1 {
             self.parked = None;
             self.wait = Wait::ClearKick { frames };
-            *asked = Ask::Swap(Mark::Kick(self.pair), 0);
+            *asked = Some(Ask::Swap(Mark::Kick(self.pair), 0));
         } else {
             self.begin(asked);
         }
     }
 
     /// Clears its flags, FILL's too or not.
-    pub(crate) fn disarm(&mut self, frames: bool, asked: &mut Ask)
+    pub(crate) fn disarm(&mut self, frames: bool, asked: &mut Option<Ask>)
         ensures gives { Gives self.old self.new asked.new }
         ensures goes { GoesOnAsk (seat_in self.old) self.new asked.new (disarm_script (seat_in self.old) frames (kept_in self.old)) }
     {
         if frames {
             self.wait = Wait::Disarm { class: 0 };
-            *asked = Ask::Swap(Mark::NeedFill(self.pair), 0);
+            *asked = Some(Ask::Swap(Mark::NeedFill(self.pair), 0));
         } else {
             self.disarm_tx(0, asked);
         }
     }
 
     /// Clears the flag of the class's TX ring, or begins a new turn after the last one.
-    pub(crate) fn disarm_tx(&mut self, class: u32, asked: &mut Ask)
+    pub(crate) fn disarm_tx(&mut self, class: u32, asked: &mut Option<Ask>)
         requires within { class ≤ self.old.classes }
         ensures gives { Gives self.old self.new asked.new }
         ensures goes { GoesOnAsk (seat_in self.old) self.new asked.new (flag_from (seat_in self.old) 0 class (kept_in self.old) (again (kept_in self.old))) }
@@ -157,7 +157,7 @@ impl<'a> Machine<'a> {
             self.begin(asked);
         } else {
             self.wait = Wait::Disarm { class: class + 1 };
-            *asked = Ask::Swap(Mark::NeedTx(self.socket_of(class)), 0);
+            *asked = Some(Ask::Swap(Mark::NeedTx(self.socket_of(class)), 0));
         }
     }
 }

@@ -3,19 +3,17 @@
 use clap::{Arg, ArgAction, Command};
 use std::alloc::{AllocError, Global};
 use xsk_args::{OptionRow, Takes};
-use xsk_cli::options::{AUDIT, LAYOUT, ROUNDS, RUN, THREADS};
+use xsk_cli::options::{AUDIT, FORWARD, SIMULATE};
 
 /// The program with its five commands. None has a help option of clap's own.
 pub(crate) fn program<'a>(alloc: Global) -> Result<Command<'a>, AllocError> {
-    let audit = with_options(alloc, bare(alloc, "audit"), &LAYOUT)?;
-    let audit = with_options(alloc, audit, &AUDIT)?.arg(files(alloc))?;
     bare(alloc, "xsk")
         .no_binary_name(true)
         .subcommand_required(true)
-        .subcommand(run(alloc, "simulate", &ROUNDS)?)?
-        .subcommand(run(alloc, "forward", &THREADS)?)?
+        .subcommand(optioned(alloc, "simulate", SIMULATE)?)?
+        .subcommand(optioned(alloc, "forward", FORWARD)?)?
         .subcommand(made(alloc)?)?
-        .subcommand(audit)?
+        .subcommand(optioned(alloc, "audit", AUDIT)?)?
         .subcommand(checked(alloc)?)
 }
 
@@ -26,15 +24,16 @@ fn bare<'a>(alloc: Global, name: &'static str) -> Command<'a> {
         .disable_help_subcommand(true)
 }
 
-/// A command that makes a run.
-fn run<'a>(
+/// A command that has options and files.
+fn optioned<'a>(
     alloc: Global,
     name: &'static str,
-    own: &[OptionRow],
+    tables: &[&[OptionRow]],
 ) -> Result<Command<'a>, AllocError> {
-    let command = with_options(alloc, bare(alloc, name), &LAYOUT)?;
-    let command = with_options(alloc, command, &RUN)?;
-    let command = with_options(alloc, command, own)?;
+    let mut command = bare(alloc, name);
+    for table in tables {
+        command = with_options(alloc, command, table)?;
+    }
     command.arg(files(alloc))
 }
 

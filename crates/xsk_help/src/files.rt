@@ -4,6 +4,7 @@ use crate::command::program;
 use clap::ArgMatches;
 use std::alloc::Global;
 use xsk_args::parse_number;
+use xsk_cli::options::{PCAPNG, PORTS};
 use xsk_io::Stream;
 
 /// The word that names the file of a stream, where there is one.
@@ -34,11 +35,12 @@ fn place_of(said: &ArgMatches<'_>, count: usize, stream: Stream) -> Option<usize
 
 /// How many outputs a command has: one for each port, or one of pcapng and of `gen`.
 fn count_outputs(said: &ArgMatches<'_>) -> usize {
-    if said.contains_id("pcapng") || said.contains_id("N") {
+    if said.contains_id(PCAPNG.name) || said.contains_id("N") {
         return 1;
     }
-    match said.get_str("ports") {
-        Some(text) => parse_number(text).unwrap_or(2) as usize,
-        None => 2,
-    }
+    let ports = match said.get_str(PORTS.name) {
+        Some(text) => parse_number(text),
+        None => None,
+    };
+    ports.unwrap_or(PORTS.unsaid.number()) as usize
 }

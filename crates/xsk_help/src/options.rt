@@ -3,8 +3,8 @@
 use crate::command::value_name;
 use std::alloc::{AllocError, Global};
 use std::fmt::Write;
-use xsk_args::{OptionRow, Takes};
-use xsk_cli::options::{AUDIT, LAYOUT, ROUNDS, RUN, THREADS};
+use xsk_args::{OptionRow, Takes, Unsaid};
+use xsk_cli::options::{JUDGED, LAYOUT, ROUNDS, RUN, THREADS};
 
 /// How the commands go.
 pub(crate) const SYNOPSIS: &str = "\
@@ -23,6 +23,15 @@ const COMMANDS: &str = "
   audit     tells the first line of a journal that isn't of a legal history of the rings, and why
   check     tells the first call of a program's recording that isn't possible, and why; else what is surely unwanted in it
 ";
+
+/// All options, in tables with the commands that have them.
+pub(crate) const TABLES: [(&str, &[OptionRow]); 5] = [
+    ("simulate, forward and audit", LAYOUT),
+    ("simulate and forward", RUN),
+    ("simulate", ROUNDS),
+    ("forward", THREADS),
+    ("audit", JUDGED),
+];
 
 const STATUSES: &str = "
 Exit status, and the line on standard output:
@@ -48,17 +57,15 @@ docs/USAGE.md has the rest.
 pub(crate) fn whole_text(alloc: Global) -> Result<String, AllocError> {
     let mut text = String::from_str(alloc, SYNOPSIS)?;
     text.push_str(COMMANDS)?;
-    push_table(&mut text, "Options of simulate, forward and audit", &LAYOUT)?;
-    push_table(&mut text, "Options of simulate and forward", &RUN)?;
-    push_table(&mut text, "Options of simulate", &ROUNDS)?;
-    push_table(&mut text, "Options of forward", &THREADS)?;
-    push_table(&mut text, "Options of audit", &AUDIT)?;
+    for (commands, table) in TABLES {
+        push_table(&mut text, commands, table)?;
+    }
     text.push_str(STATUSES)?;
     Ok(text)
 }
 
-fn push_table(text: &mut String, title: &str, table: &[OptionRow]) -> Result<(), AllocError> {
-    writeln!(text, "\n{title}:")?;
+fn push_table(text: &mut String, commands: &str, table: &[OptionRow]) -> Result<(), AllocError> {
+    writeln!(text, "\nOptions of {commands}:")?;
     for row in table {
         push_row(text, row)?;
     }
@@ -70,16 +77,16 @@ fn push_row(text: &mut String, row: &OptionRow) -> Result<(), AllocError> {
     let name = row.name;
     let about = row.about;
     let accepts = row.accepts;
-    let unsaid = row.unsaid;
     let value = value_name(row.takes);
     match row.takes {
-        Takes::Nothing => writeln!(
+        Takes::Nothing => write!(text, "  --{name}\n      {about}\n      ")?,
+        _ => write!(
             text,
-            "  --{name}\n      {about}\n      without it: {unsaid}"
-        ),
-        _ => writeln!(
-            text,
-            "  --{name} {value}\n      {about}\n      accepted: {accepts}; without it: {unsaid}"
-        ),
+            "  --{name} {value}\n      {about}\n      accepted: {accepts}; "
+        )?,
+    }
+    match row.unsaid {
+        Unsaid::Number(number) => writeln!(text, "without it: {number}"),
+        Unsaid::Told(words) => writeln!(text, "without it: {words}"),
     }
 }

@@ -1,13 +1,13 @@
 //! What is wrong with words that are no command, and what was asked for by `--help`, `-h` and `--version`.
 
 use crate::command::program;
-use crate::options::{SYNOPSIS, whole_text};
+use crate::options::{SYNOPSIS, TABLES, whole_text};
 use crate::version::VERSION;
 use clap::ArgMatches;
 use std::alloc::{AllocError, Global};
 use std::fmt::Write;
 use xsk_args::{OptionRow, Takes, takes_text};
-use xsk_cli::options::{LAYOUT, ROUNDS, RUN, THREADS};
+use xsk_cli::options::{CLOSE, GEN, PCAPNG};
 
 /// What is told of words that are no command.
 pub(crate) fn usage_text(alloc: Global, words: &[String]) -> Result<String, AllocError> {
@@ -62,12 +62,10 @@ fn push_message(text: &mut String, message: &str) -> Result<(), AllocError> {
 
 /// What is wrong with words in which clap finds nothing.
 fn push_misfit(text: &mut String, said: &ArgMatches<'_>) -> Result<(), AllocError> {
-    if push_bad_value(text, said, &LAYOUT)?
-        || push_bad_value(text, said, &RUN)?
-        || push_bad_value(text, said, &ROUNDS)?
-        || push_bad_value(text, said, &THREADS)?
-    {
-        return Ok(());
+    for (_commands, table) in TABLES {
+        if push_bad_value(text, said, table)? {
+            return Ok(());
+        }
     }
     text.push_str(discord(said))
 }
@@ -105,10 +103,10 @@ fn discord(said: &ArgMatches<'_>) -> &'static str {
     if said.contains_id("N") {
         return "gen wants a number of at most 4294967295, and a file";
     }
-    if said.contains_id("pcapng") && count_files(said) != files_of_pcapng(said) {
+    if said.contains_id(PCAPNG.name) && count_files(said) != files_of_pcapng(said) {
         return "--pcapng wants the two files IN and OUT, or with --gen OUT alone";
     }
-    if said.contains_id("close") {
+    if said.contains_id(CLOSE.name) {
         return "--close wants one hand of each application: leave --hands out";
     }
     "--after is said of the socket that --close names"
@@ -123,5 +121,5 @@ fn count_files(said: &ArgMatches<'_>) -> usize {
 
 /// How many files there are with pcapng.
 fn files_of_pcapng(said: &ArgMatches<'_>) -> usize {
-    if said.contains_id("gen") { 1 } else { 2 }
+    if said.contains_id(GEN.name) { 1 } else { 2 }
 }

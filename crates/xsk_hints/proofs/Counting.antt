@@ -94,45 +94,45 @@ if_else s line q r ts (Some o) p hq mq hr mr off = other_ring s line q r ts o p 
 
 -- ---- entries
 
-pub length-all_counted : (s : Setting) (line : ℕ) (r : Ring) (es : List XdpDesc) (ts : List Tally) → length (all_counted s line r es ts) ≡ length ts
-length-all_counted s line r [] ts = refl
-length-all_counted s line r (e ∷ es) ts = length-all_counted s line r es (counted_if s line r ts (oddity_of s r e)) ∙ length-counted_if s line r ts (oddity_of s r e)
+pub length-all_counted : (s : Setting) (m : Bool) (line : ℕ) (r : Ring) (es : List XdpDesc) (ts : List Tally) → length (all_counted s m line r es ts) ≡ length ts
+length-all_counted s m line r [] ts = refl
+length-all_counted s m line r (e ∷ es) ts = length-all_counted s m line r es (counted_if s line r ts (oddity_of s m r e)) ∙ length-counted_if s line r ts (oddity_of s m r e)
 
-all_here : (s : Setting) (line : ℕ) (r : Ring) (es : List XdpDesc) (ts : List Tally) (p : Oddity) (ls : List ℕ) → Fits s ts → HasRing s r → odd_in s ts r p ≡ tally_of ls
-    → odd_in s (all_counted s line r es ts) r p ≡ tally_of (replicate (often s r p es) line ++ ls)
-all_here s line r [] ts p ls size has before = before
-all_here s line r (e ∷ es) ts p ls size has before =
-    let x = oddity_of s r e in
+all_here : (s : Setting) (m : Bool) (line : ℕ) (r : Ring) (es : List XdpDesc) (ts : List Tally) (p : Oddity) (ls : List ℕ) → Fits s ts → HasRing s r → odd_in s ts r p ≡ tally_of ls
+    → odd_in s (all_counted s m line r es ts) r p ≡ tally_of (replicate (often s m r p es) line ++ ls)
+all_here s m line r [] ts p ls size has before = before
+all_here s m line r (e ∷ es) ts p ls size has before =
+    let x = oddity_of s m r e in
     let one = cond (is_told p x) 1 0 in
-    let rest = often s r p es in
+    let rest = often s m r p es in
     let swap : rest + one ≡ one + rest = omega arith in
-    all_here s line r es (counted_if s line r ts x) p (replicate one line ++ ls) (length-counted_if s line r ts x ∙ size) has (if_here s line r ts x p ls size has before)
+    all_here s m line r es (counted_if s line r ts x) p (replicate one line ++ ls) (length-counted_if s line r ts x ∙ size) has (if_here s line r ts x p ls size has before)
     ∙ ap tally_of (sym (append_assoc (replicate rest line) (replicate one line) ls)
     ∙ ap (λ xs. xs ++ ls) (replicate-append-replicate rest one line ∙ ap (λ n. replicate n line) swap))
 
-all_else : (s : Setting) (line : ℕ) (q r : Ring) (es : List XdpDesc) (ts : List Tally) (p : Oddity) → HasRing s q → is_made q ≡ true → HasRing s r → is_made r ≡ true → is_ring r q ≡ false
-    → odd_in s (all_counted s line q es ts) r p ≡ odd_in s ts r p
-all_else s line q r [] ts p hq mq hr mr off = refl
-all_else s line q r (e ∷ es) ts p hq mq hr mr off =
-    all_else s line q r es (counted_if s line q ts (oddity_of s q e)) p hq mq hr mr off ∙ if_else s line q r ts (oddity_of s q e) p hq mq hr mr off
+all_else : (s : Setting) (m : Bool) (line : ℕ) (q r : Ring) (es : List XdpDesc) (ts : List Tally) (p : Oddity) → HasRing s q → is_made q ≡ true → HasRing s r → is_made r ≡ true → is_ring r q ≡ false
+    → odd_in s (all_counted s m line q es ts) r p ≡ odd_in s ts r p
+all_else s m line q r [] ts p hq mq hr mr off = refl
+all_else s m line q r (e ∷ es) ts p hq mq hr mr off =
+    all_else s m line q r es (counted_if s line q ts (oddity_of s m q e)) p hq mq hr mr off ∙ if_else s line q r ts (oddity_of s m q e) p hq mq hr mr off
 
 -- one entry more
-pub all_more : (s : Setting) (line : ℕ) (r : Ring) (es : List XdpDesc) (i : ℕ) (d : XdpDesc) (x : Option Oddity) (old new first : List Tally) → i < length es
-    → x ≡ oddity_of s r (get_or es i d) → new ≡ counted_if s line r old x → all_counted s line r (drop i es) old ≡ all_counted s line r es first
-    → all_counted s line r (drop (i + 1) es) new ≡ all_counted s line r es first
-all_more s line r es i d x old new first low told counted_so before =
-    ap (all_counted s line r (drop (i + 1) es)) (counted_so ∙ ap (counted_if s line r old) told)
-    ∙ sym (ap (λ xs. all_counted s line r xs old) (drop_more es i d low))
+pub all_more : (s : Setting) (m : Bool) (line : ℕ) (r : Ring) (es : List XdpDesc) (i : ℕ) (d : XdpDesc) (x : Option Oddity) (old new first : List Tally) → i < length es
+    → x ≡ oddity_of s m r (get_or es i d) → new ≡ counted_if s line r old x → all_counted s m line r (drop i es) old ≡ all_counted s m line r es first
+    → all_counted s m line r (drop (i + 1) es) new ≡ all_counted s m line r es first
+all_more s m line r es i d x old new first low told counted_so before =
+    ap (all_counted s m line r (drop (i + 1) es)) (counted_so ∙ ap (counted_if s line r old) told)
+    ∙ sym (ap (λ xs. all_counted s m line r xs old) (drop_more es i d low))
     ∙ before
 
 -- ---- calls
 
 -- a call that has no oddity, and is no Peek on COMPLETION
 plain : (s : Setting) (noted : Noted) (line : ℕ) (call : Call) (lines : List Line) → Notes s noted lines
-    → ((r : Ring) → HasRing s r → is_made r ≡ true → (o : Oddity) → times_met s r o call ≡ 0)
+    → ((r : Ring) → HasRing s r → is_made r ≡ true → (o : Oddity) → times_met s noted.metadata r o call ≡ 0)
     → ((d : ℕ) → d < length s.pairs → peeks (Comp d) call ≡ false) → Notes s noted (more line call lines)
 plain s noted line call lines now none no_peek = record {
-  odd = λ r has made o. now.odd r has made o ∙ ap (λ n. tally_of (replicate n line ++ met s r o lines)) (sym (none r has made o));
+  odd = λ r has made o. now.odd r has made o ∙ ap (λ n. tally_of (replicate n line ++ met s noted.metadata r o lines)) (sym (none r has made o));
   peeked = λ d low. now.peeked d low ∙ sym (is_false (peeks (Comp d) call) line (last_peek (Comp d) lines) (no_peek d low));
 }
 
@@ -168,28 +168,28 @@ notes_granted s noted line q n answer lines granted now = plain s noted line (Re
 pub notes_submit_none : (s : Setting) (noted : Noted) (line : ℕ) (q : Ring) (es : List XdpDesc) (lines : List Line) → (HasRing s q × (is_made q ≡ true) → ⊥)
     → Notes s noted lines → Notes s noted (more line (Submit q es) lines)
 notes_submit_none s noted line q es lines none now = plain s noted line (Submit q es) lines now
-    (λ r has made o. is_false (is_ring r q) (often s r o es) 0 (elsewhere s q r none has made)) (λ d low. refl)
+    (λ r has made o. is_false (is_ring r q) (often s noted.metadata r o es) 0 (elsewhere s q r none has made)) (λ d low. refl)
 
-abbrev noted_of : List Tally → List ℕ → Noted
-noted_of ts ps = record { tallies = ts; peeks = ps }
+abbrev noted_of : List Tally → List ℕ → Bool → Noted
+noted_of ts ps m = record { tallies = ts; peeks = ps; metadata = m }
 
-pub noted_is : (ts us : List Tally) (ps qs : List ℕ) → ts ≡ us → ps ≡ qs → noted_of ts ps ≡ noted_of us qs
-noted_is ts us ps qs h k = ap (λ xs. noted_of xs ps) h ∙ ap (noted_of us) k
+pub noted_is : (ts us : List Tally) (ps qs : List ℕ) (m n : Bool) → ts ≡ us → ps ≡ qs → m ≡ n → noted_of ts ps m ≡ noted_of us qs n
+noted_is ts us ps qs m n h k l = ap (λ xs. noted_of xs ps m) h ∙ ap (λ xs. noted_of us xs m) k ∙ ap (noted_of us qs) l
 
 abbrev with_tallies : Noted → List Tally → Noted
 with_tallies noted ts = record noted { tallies = ts }
 
 pub notes_submit : (s : Setting) (noted noted' : Noted) (line : ℕ) (q : Ring) (es : List XdpDesc) (lines : List Line) → IsSized s noted → HasRing s q → is_made q ≡ true
-    → noted' ≡ with_tallies noted (all_counted s line q es noted.tallies) → Notes s noted lines → Notes s noted' (more line (Submit q es) lines)
+    → noted' ≡ with_tallies noted (all_counted s noted.metadata line q es noted.tallies) → Notes s noted lines → Notes s noted' (more line (Submit q es) lines)
 notes_submit s noted noted' line q es lines size hq mq is now = subst (λ x. Notes s x (more line (Submit q es) lines)) (sym is) (record {
   odd = λ r has made o. ⊎_elim
-      (λ (e : r ≡ q). subst (λ x. odd_in s (all_counted s line q es noted.tallies) x o ≡ tally_of (replicate (times_met s x o (Submit q es)) line ++ met s x o lines)) (sym e)
-      (all_here s line q es noted.tallies o (met s q o lines) size.tallies hq (now.odd q hq mq o)
-      ∙ ap (λ n. tally_of (replicate n line ++ met s q o lines)) (sym (is_true (is_ring q q) (often s q o es) 0 (is_ring-self q)))))
+      (λ (e : r ≡ q). subst (λ x. odd_in s (all_counted s noted.metadata line q es noted.tallies) x o ≡ tally_of (replicate (times_met s noted.metadata x o (Submit q es)) line ++ met s noted.metadata x o lines)) (sym e)
+      (all_here s noted.metadata line q es noted.tallies o (met s noted.metadata q o lines) size.tallies hq (now.odd q hq mq o)
+      ∙ ap (λ n. tally_of (replicate n line ++ met s noted.metadata q o lines)) (sym (is_true (is_ring q q) (often s noted.metadata q o es) 0 (is_ring-self q)))))
       (λ (off : is_ring r q ≡ false).
-      all_else s line q r es noted.tallies o hq mq has made off
+      all_else s noted.metadata line q r es noted.tallies o hq mq has made off
       ∙ now.odd r has made o
-      ∙ ap (λ n. tally_of (replicate n line ++ met s r o lines)) (sym (is_false (is_ring r q) (often s r o es) 0 off)))
+      ∙ ap (λ n. tally_of (replicate n line ++ met s noted.metadata r o lines)) (sym (is_false (is_ring r q) (often s noted.metadata r o es) 0 off)))
       (same_or r q);
   peeked = λ d low. now.peeked d low;
 })
@@ -198,13 +198,13 @@ pub notes_refused : (s : Setting) (noted noted' : Noted) (line : ℕ) (q : Ring)
     → noted' ≡ with_tallies noted (counted s line q noted.tallies Refused) → Notes s noted lines → Notes s noted' (more line (Reserve q n answer) lines)
 notes_refused s noted noted' line q n answer lines size hq mq refused is now = subst (λ x. Notes s x (more line (Reserve q n answer) lines)) (sym is) (record {
   odd = λ r has made o. ⊎_elim
-      (λ (e : r ≡ q). subst (λ x. odd_in s (counted s line q noted.tallies Refused) x o ≡ tally_of (replicate (times_met s x o (Reserve q n answer)) line ++ met s x o lines)) (sym e)
-      (own_ring s line q noted.tallies Refused o (met s q o lines) size.tallies hq (now.odd q hq mq o)
-      ∙ ap (λ (b : Bool). tally_of (replicate (cond b 1 0) line ++ met s q o lines)) (sym (here (is_ring q q) (is_odd o Refused) (is_refusal answer) (is_ring-self q) refused))))
+      (λ (e : r ≡ q). subst (λ x. odd_in s (counted s line q noted.tallies Refused) x o ≡ tally_of (replicate (times_met s noted.metadata x o (Reserve q n answer)) line ++ met s noted.metadata x o lines)) (sym e)
+      (own_ring s line q noted.tallies Refused o (met s noted.metadata q o lines) size.tallies hq (now.odd q hq mq o)
+      ∙ ap (λ (b : Bool). tally_of (replicate (cond b 1 0) line ++ met s noted.metadata q o lines)) (sym (here (is_ring q q) (is_odd o Refused) (is_refusal answer) (is_ring-self q) refused))))
       (λ (off : is_ring r q ≡ false).
       other_ring s line q r noted.tallies Refused o hq mq has made off
       ∙ now.odd r has made o
-      ∙ ap (λ (b : Bool). tally_of (replicate (cond (b && (is_odd o Refused && is_refusal answer)) 1 0) line ++ met s r o lines)) (sym off))
+      ∙ ap (λ (b : Bool). tally_of (replicate (cond (b && (is_odd o Refused && is_refusal answer)) 1 0) line ++ met s noted.metadata r o lines)) (sym off))
       (same_or r q);
   peeked = λ d low. now.peeked d low;
 })

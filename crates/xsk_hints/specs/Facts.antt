@@ -1,6 +1,6 @@
 -- The facts of a recording that hints tell: what is possible and surely unwanted (af_xdp.rst, "Rings", "UMEM Fill Ring", "UMEM
 -- Completion Ring", "TX Ring"), and where frames are. Lists have the latest call first; a line's number tells when.
-use Rattle.std.specs.Prelude.{ℕ, zero, suc, replicate, ◌+◌, ◌%◌, Bool, true, false, ◌&&◌, ◌==◌, not, nat_lt, if◌then◌else◌, Option, Some, None, List, [], ◌∷◌, ◌++◌}
+use Rattle.std.specs.Prelude.{ℕ, zero, suc, replicate, ◌+◌, ◌-◌, ◌%◌, Bool, true, false, ◌&&◌, ◌==◌, not, nat_le, nat_lt, if◌then◌else◌, Option, Some, None, List, [], ◌∷◌, ◌++◌}
 use Rattle.xsk_umem.specs.declared.batch.XdpDesc.{XdpDesc}
 use Rattle.xsk_model.specs.Descriptor.{is_inside, has_bytes, fits_chunk, has_known_options}
 use Rattle.xsk_model.specs.Rings.{is_ring}
@@ -27,20 +27,24 @@ on_fill s entry =
     else if not (entry.addr % s.geometry.chunk == 0) then Some Within
     else None
 
+-- the options besides XDP_TX_METADATA, which is 2 (if_xdp.h, from Linux 6.8 on), where the UMEM has room for TX metadata
+abbrev pub besides_metadata : Bool → ℕ → ℕ
+besides_metadata metadata options = if metadata && nat_le 2 options then options - 2 else options
+
 -- a descriptor on TX: the first condition of a valid one that fails; no kernel sends it
-abbrev pub on_tx : Setting → XdpDesc → Option Oddity
-on_tx s entry =
+abbrev pub on_tx : Setting → Bool → XdpDesc → Option Oddity
+on_tx s metadata entry =
     if not (is_inside s.geometry entry) then Some Outside
     else if not (has_bytes entry) then Some Empty
     else if not (fits_chunk s.geometry entry) then Some Crossing
-    else if not (has_known_options s.rules.sg entry) then Some Options
+    else if not (has_known_options s.rules.sg (record entry { options = besides_metadata metadata entry.options })) then Some Options
     else None
 
-abbrev pub oddity_of : Setting → Ring → XdpDesc → Option Oddity
-oddity_of s (Fill d) entry = on_fill s entry
-oddity_of s (Comp d) entry = None
-oddity_of s (Rx k) entry = None
-oddity_of s (Tx k) entry = on_tx s entry
+abbrev pub oddity_of : Setting → Bool → Ring → XdpDesc → Option Oddity
+oddity_of s metadata (Fill d) entry = on_fill s entry
+oddity_of s metadata (Comp d) entry = None
+oddity_of s metadata (Rx k) entry = None
+oddity_of s metadata (Tx k) entry = on_tx s metadata entry
 
 -- the number of an oddity
 abbrev pub code : Oddity → ℕ
@@ -59,9 +63,9 @@ is_told o None = false
 is_told o (Some p) = is_odd o p
 
 -- how many of the entries that are submitted on a ring have an oddity
-abbrev pub often : Setting → Ring → Oddity → List XdpDesc → ℕ
-often s r o [] = 0
-often s r o (entry ∷ entries) = (if is_told o (oddity_of s r entry) then 1 else 0) + often s r o entries
+abbrev pub often : Setting → Bool → Ring → Oddity → List XdpDesc → ℕ
+often s metadata r o [] = 0
+often s metadata r o (entry ∷ entries) = (if is_told o (oddity_of s metadata r entry) then 1 else 0) + often s metadata r o entries
 
 abbrev pub is_refusal : Answer → Bool
 is_refusal an_answer.Granted = false
@@ -69,18 +73,18 @@ is_refusal (an_answer.Full places) = true
 is_refusal an_answer.Refused = true
 
 -- how often a call has it on a ring
-abbrev pub times_met : Setting → Ring → Oddity → Call → ℕ
-times_met s r o (Reserve q n answer) = if is_ring r q && (is_odd o Refused && is_refusal answer) then 1 else 0
-times_met s r o (Free q n places) = 0
-times_met s r o (Submit q entries) = if is_ring r q then often s r o entries else 0
-times_met s r o (Peek q n entries) = 0
-times_met s r o (Release q n) = 0
-times_met s r o (Cancel q n) = 0
+abbrev pub times_met : Setting → Bool → Ring → Oddity → Call → ℕ
+times_met s metadata r o (Reserve q n answer) = if is_ring r q && (is_odd o Refused && is_refusal answer) then 1 else 0
+times_met s metadata r o (Free q n places) = 0
+times_met s metadata r o (Submit q entries) = if is_ring r q then often s metadata r o entries else 0
+times_met s metadata r o (Peek q n entries) = 0
+times_met s metadata r o (Release q n) = 0
+times_met s metadata r o (Cancel q n) = 0
 
 -- the lines of the calls that have it, each as often
-abbrev pub met : Setting → Ring → Oddity → List Line → List ℕ
-met s r o [] = []
-met s r o (l ∷ lines) = replicate (times_met s r o l.call) l.line ++ met s r o lines
+abbrev pub met : Setting → Bool → Ring → Oddity → List Line → List ℕ
+met s metadata r o [] = []
+met s metadata r o (l ∷ lines) = replicate (times_met s metadata r o l.call) l.line ++ met s metadata r o lines
 
 -- ---- Peeks
 

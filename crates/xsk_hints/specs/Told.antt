@@ -1,5 +1,5 @@
 -- The text of the hints. The form of the lines is this project's own; a line 0 is the start.
-use Rattle.std.specs.Prelude.{ℕ, ◌==◌, nat_lt, if◌then◌else◌, Option, Some, None, List, [], ◌++◌, length, flat_map, codes}
+use Rattle.std.specs.Prelude.{ℕ, ◌==◌, nat_lt, Bool, if◌then◌else◌, Option, Some, None, List, [], ◌++◌, length, flat_map, codes}
 use Rattle.std.specs.List.{range_with_len}
 use Rattle.std.specs.Fmt.{decimal}
 use Rattle.xsk_model.specs.declared.call.Ring.{Ring}
@@ -44,21 +44,21 @@ words_of Crossing = codes ": invalid descriptors (across the end of a chunk): "
 words_of Options = codes ": invalid descriptors (unknown options): "
 words_of Refused = codes ": refused reserves: "
 
-abbrev pub odd_line : Setting → List Line → Ring → Oddity → List ℕ
-odd_line s lines r o = tally_line r (words_of o) (tally_of (met s r o lines))
+abbrev pub odd_line : Setting → Bool → List Line → Ring → Oddity → List ℕ
+odd_line s metadata lines r o = tally_line r (words_of o) (tally_of (met s metadata r o lines))
 
-abbrev pub odd_lines : Setting → List Line → Ring → List ℕ
-odd_lines s lines r =
-    odd_line s lines r Outside ++ odd_line s lines r Within ++ odd_line s lines r Empty
-    ++ odd_line s lines r Crossing ++ odd_line s lines r Options ++ odd_line s lines r Refused
+abbrev pub odd_lines : Setting → Bool → List Line → Ring → List ℕ
+odd_lines s metadata lines r =
+    odd_line s metadata lines r Outside ++ odd_line s metadata lines r Within ++ odd_line s metadata lines r Empty
+    ++ odd_line s metadata lines r Crossing ++ odd_line s metadata lines r Options ++ odd_line s metadata lines r Refused
 
 -- since when the frames in a place are there
 abbrev pub tally_in : Setting → List Line → Spot → Tally
 tally_in s lines spot = tally_of (since_at s lines spot s.geometry.frames)
 
-abbrev pub made_lines : Setting → List Line → Ring → List ℕ
-made_lines s lines r =
-    odd_lines s lines r
+abbrev pub made_lines : Setting → Bool → List Line → Ring → List ℕ
+made_lines s metadata lines r =
+    odd_lines s metadata lines r
     ++ count_line r (codes ": places reserved and not filled at the end: ") (room_of r (calls_of lines))
     ++ tally_line r (codes ": frames on it at the end: ") (tally_in s lines (On r))
 
@@ -70,9 +70,10 @@ unpeeked socket pair peek t =
     ++ numbered (codes " up to line ") t.last ++ codes "\n"
     else []
 
-abbrev pub tx_lines : Setting → List Line → ℕ → List ℕ
-tx_lines s lines k =
-    made_lines s lines (Tx k) ++ unpeeked k (pair_of s (Tx k)) (last_peek (Comp (pair_of s (Tx k))) lines) (tally_in s lines (On (Tx k)))
+abbrev pub tx_lines : Setting → Bool → List Line → ℕ → List ℕ
+tx_lines s metadata lines k =
+    made_lines s metadata lines (Tx k)
+    ++ unpeeked k (pair_of s (Tx k)) (last_peek (Comp (pair_of s (Tx k))) lines) (tally_in s lines (On (Tx k)))
 
 -- ---- COMPLETION and RX
 
@@ -84,26 +85,26 @@ shown_lines s lines r =
 
 -- ---- all
 
-abbrev pub pair_lines : Setting → List Line → ℕ → List ℕ
-pair_lines s lines d = made_lines s lines (Fill d) ++ shown_lines s lines (Comp d)
+abbrev pub pair_lines : Setting → Bool → List Line → ℕ → List ℕ
+pair_lines s metadata lines d = made_lines s metadata lines (Fill d) ++ shown_lines s lines (Comp d)
 
 -- a text where a socket has a ring
 abbrev pub where_some : Option ℕ → List ℕ → List ℕ
 where_some None text = []
 where_some (Some size) text = text
 
-abbrev pub socket_lines : Setting → List Line → ℕ → List ℕ
-socket_lines s lines k =
-    where_some (socket_at s k).rx (shown_lines s lines (Rx k)) ++ where_some (socket_at s k).tx (tx_lines s lines k)
+abbrev pub socket_lines : Setting → Bool → List Line → ℕ → List ℕ
+socket_lines s metadata lines k =
+    where_some (socket_at s k).rx (shown_lines s lines (Rx k)) ++ where_some (socket_at s k).tx (tx_lines s metadata lines k)
 
 abbrev pub start_line : ℕ → List ℕ
 start_line n = if n == 0 then [] else numbered (codes "frames with the program from the start: ") n ++ codes "\n"
 
-abbrev pub hints_text : Setting → List Line → List ℕ
-hints_text s lines =
+abbrev pub hints_text : Setting → Bool → List Line → List ℕ
+hints_text s metadata lines =
     start_line (tally_in s lines First).count
-    ++ flat_map (pair_lines s lines) (range_with_len 0 (length s.pairs))
-    ++ flat_map (socket_lines s lines) (range_with_len 0 (length s.sockets))
+    ++ flat_map (pair_lines s metadata lines) (range_with_len 0 (length s.pairs))
+    ++ flat_map (socket_lines s metadata lines) (range_with_len 0 (length s.sockets))
 
 -- since which line a FILL has no frame at the end
 abbrev pub dry_line : ℕ → ℕ → List ℕ

@@ -25,6 +25,8 @@ pub struct Hints {
     tallies: Vec<Tally>,
     /// By pair: the line of the last Peek on COMPLETION; 0 is the start.
     peeks: Vec<u64>,
+    /// Whether the UMEM has room for TX metadata.
+    metadata: bool,
 }
 
 impl Model for Hints {
@@ -32,25 +34,32 @@ impl Model for Hints {
 
     ghost Value = { Noted };
 
-    ghost view = { λ h. record { tallies = h.tallies.items; peeks = h.peeks.items } };
+    ghost view = { λ h. record { tallies = h.tallies.items; peeks = h.peeks.items; metadata = h.metadata } };
 }
 
 impl Hints {
-    /// Hints on no call. It takes all the memory that it will need; want of it is the one error.
-    pub fn new(alloc: Global, setting: &Setting) -> Result<Hints, OutOfMemory>
+    /// Hints on no call, of a UMEM that has room for TX metadata or none. It takes all the memory that it will need; want of it is the one
+    /// error.
+    pub fn new(alloc: Global, setting: &Setting, metadata: bool) -> Result<Hints, OutOfMemory>
         ensures sized { IfOk result (λ hints. IsSized setting.now hints) }
+        ensures metadata { IfOk result (λ hints. hints.metadata ≡ metadata) }
         ensures notes { IfOk result (λ hints. Notes setting.now hints []) }
     {
         let rings = setting.pairs().len() + setting.sockets().len();
         let tallies = vec![in alloc; Tally::none(); rings * ODDITIES]?;
         let peeks = vec![in alloc; 0u64; setting.pairs().len()]?;
-        Ok(Hints { tallies, peeks })
+        Ok(Hints {
+            tallies,
+            peeks,
+            metadata,
+        })
     }
 
     /// Notes the next call, which stands in this line. It takes no memory.
     pub fn note(&mut self, setting: &Setting, line: u64, call: &Call)
         requires { IsSized setting.now self.old }
         ensures sized { IsSized setting.now self.new }
+        ensures metadata { self.new.metadata ≡ self.old.metadata }
         ensures notes { (lines : List Line) → Notes setting.now self.old lines → Notes setting.now self.new (record { line = line; call = call.now } ∷ lines) }
     {
         match call {
@@ -77,7 +86,7 @@ impl Hints {
         requires sized { IsSized setting.now self.now }
         requires ready { IsReady setting.now judge.now }
         ensures { (lines : List Line) → StandsFor setting.now judge.now lines → Notes setting.now self.now lines
-            → OnOk result (text.new.items ≡ text.old.items ++ hints_text setting.now lines) }
+            → OnOk result (text.new.items ≡ text.old.items ++ hints_text setting.now self.now.metadata lines) }
     {
         push_start(text, tally_at(setting, judge, Spot::First).count)?;
         push_pairs(text, setting, self, judge)?;
@@ -105,6 +114,7 @@ impl Hints {
     fn reserved(&mut self, setting: &Setting, line: u64, ring: Ring, answer: Answer)
         requires { IsSized setting.now self.old }
         ensures sized { IsSized setting.now self.new }
+        ensures metadata { self.new.metadata ≡ self.old.metadata }
         ensures notes { (n : ℕ) (lines : List Line) → Notes setting.now self.old lines → Notes setting.now self.new (record { line = line; call = Reserve ring n answer } ∷ lines) }
     {
         if !is_told(setting, ring) {
@@ -119,17 +129,26 @@ impl Hints {
     fn submitted(&mut self, setting: &Setting, line: u64, ring: Ring, entries: &[XdpDesc])
         requires { IsSized setting.now self.old }
         ensures sized { IsSized setting.now self.new }
+        ensures metadata { self.new.metadata ≡ self.old.metadata }
         ensures notes { (lines : List Line) → Notes setting.now self.old lines → Notes setting.now self.new (record { line = line; call = Submit ring entries.now } ∷ lines) }
     {
         if !is_told(setting, ring) {
             return;
         }
-        count_all(&mut self.tallies, setting, line, ring, entries);
+        count_all(
+            &mut self.tallies,
+            setting,
+            self.metadata,
+            line,
+            ring,
+            entries,
+        );
     }
 
     fn peeked(&mut self, line: u64, ring: Ring)
         ensures tallies { self.new.tallies ≡ self.old.tallies }
         ensures peeks { self.new.peeks ≡ peeked_on line ring self.old.peeks }
+        ensures metadata { self.new.metadata ≡ self.old.metadata }
     {
         if let Ring::Comp(pair) = ring {
             let pair = pair as usize;
@@ -186,13 +205,14 @@ fn count_if(tallies: &mut Vec<Tally>, setting: &Setting, line: u64, ring: Ring, 
 fn count_all(
     tallies: &mut Vec<Tally>,
     setting: &Setting,
+    metadata: bool,
     line: u64,
     ring: Ring,
     entries: &[XdpDesc],
 )
     requires size { length tallies.old.items ≡ (length setting.now.pairs + length setting.now.sockets) * 6 }
     requires ring { HasRing setting.now ring }
-    ensures { tallies.new.items ≡ all_counted setting.now line ring entries.now tallies.old.items }
+    ensures { tallies.new.items ≡ all_counted setting.now metadata line ring entries.now tallies.old.items }
 {
     for entry in entries {
         count_if(
@@ -200,7 +220,7 @@ fn count_all(
             setting,
             line,
             ring,
-            find_oddity(setting, ring, *entry),
+            find_oddity(setting, metadata, ring, *entry),
         );
     }
 }

@@ -1,10 +1,13 @@
 //! What a call has that is possible and surely unwanted.
 ghost use Rattle.std.specs.Prelude.{◌≡◌, ◌<◌};
-ghost use Rattle.xsk_hints.specs.Facts.{code, oddity_of, on_fill, on_tx};
+ghost use Rattle.xsk_hints.specs.Facts.{besides_metadata as besides, code, oddity_of, on_fill, on_tx};
 
 use xsk_model::Ring;
 use xsk_side::Setting;
 use xsk_umem::{XDP_PKT_CONTD, XdpDesc};
+
+/// An option of a descriptor on TX (if_xdp.h, from Linux 6.8 on).
+const XDP_TX_METADATA: u32 = 2;
 
 /// What a Submit or a Reserve has that is possible and surely unwanted.
 #[derive(Clone, Copy, Debug, PartialEq, Eq)]
@@ -43,12 +46,17 @@ impl Oddity {
 }
 
 /// What an entry has that the program submits on a ring; the first in the order of [`Oddity`].
-pub(crate) fn find_oddity(setting: &Setting, ring: Ring, entry: XdpDesc) -> Option<Oddity>
-    ensures { result ≡ oddity_of setting.now ring entry }
+pub(crate) fn find_oddity(
+    setting: &Setting,
+    metadata: bool,
+    ring: Ring,
+    entry: XdpDesc,
+) -> Option<Oddity>
+    ensures { result ≡ oddity_of setting.now metadata ring entry }
 {
     match ring {
         Ring::Fill(_) => filled(setting, entry),
-        Ring::Tx(_) => sent(setting, entry),
+        Ring::Tx(_) => sent(setting, metadata, entry),
         Ring::Comp(_) | Ring::Rx(_) => None,
     }
 }
@@ -66,8 +74,8 @@ fn filled(setting: &Setting, entry: XdpDesc) -> Option<Oddity>
     None
 }
 
-fn sent(setting: &Setting, entry: XdpDesc) -> Option<Oddity>
-    ensures { result ≡ on_tx setting.now entry }
+fn sent(setting: &Setting, metadata: bool, entry: XdpDesc) -> Option<Oddity>
+    ensures { result ≡ on_tx setting.now metadata entry }
 {
     let chunk = u64::from(setting.chunk());
     if entry.addr >= u64::from(setting.frames()) * chunk {
@@ -79,9 +87,21 @@ fn sent(setting: &Setting, entry: XdpDesc) -> Option<Oddity>
     if entry.addr % chunk + u64::from(entry.len) > chunk {
         return Some(Oddity::Crossing);
     }
-    let goes_on = setting.rules().sg && entry.options == XDP_PKT_CONTD;
-    if entry.options != 0 && !goes_on {
+    let options = besides_metadata(metadata, entry.options);
+    let goes_on = setting.rules().sg && options == XDP_PKT_CONTD;
+    if options != 0 && !goes_on {
         return Some(Oddity::Options);
     }
     None
+}
+
+/// The options besides `XDP_TX_METADATA`, where the UMEM has room for TX metadata.
+fn besides_metadata(metadata: bool, options: u32) -> u32
+    ensures { result ≡ besides metadata options }
+{
+    if metadata && options >= XDP_TX_METADATA {
+        options - XDP_TX_METADATA
+    } else {
+        options
+    }
 }

@@ -28,7 +28,7 @@ pub(crate) fn push_pairs(
     requires sized { IsSized setting.now hints.now }
     requires ready { IsReady setting.now judge.now }
     ensures { (lines : List Line) → StandsFor setting.now judge.now lines → Notes setting.now hints.now lines
-        → OnOk result (text.new.items ≡ text.old.items ++ flat_map (pair_lines setting.now lines) (range_with_len 0 (length setting.now.pairs))) }
+        → OnOk result (text.new.items ≡ text.old.items ++ flat_map (pair_lines setting.now hints.now.metadata lines) (range_with_len 0 (length setting.now.pairs))) }
 {
     for pair in 0..setting.pairs().len() as u32 {
         push_made(text, setting, hints, judge, Ring::Fill(pair))?;
@@ -47,7 +47,7 @@ pub(crate) fn push_sockets(
     requires sized { IsSized setting.now hints.now }
     requires ready { IsReady setting.now judge.now }
     ensures { (lines : List Line) → StandsFor setting.now judge.now lines → Notes setting.now hints.now lines
-        → OnOk result (text.new.items ≡ text.old.items ++ flat_map (socket_lines setting.now lines) (range_with_len 0 (length setting.now.sockets))) }
+        → OnOk result (text.new.items ≡ text.old.items ++ flat_map (socket_lines setting.now hints.now.metadata lines) (range_with_len 0 (length setting.now.sockets))) }
 {
     for socket in 0..setting.sockets().len() as u32 {
         push_socket(text, setting, hints, judge, socket)?;
@@ -67,7 +67,7 @@ fn push_socket(
     requires ready { IsReady setting.now judge.now }
     requires socket { socket < length setting.now.sockets }
     ensures { (lines : List Line) → StandsFor setting.now judge.now lines → Notes setting.now hints.now lines
-        → OnOk result (text.new.items ≡ text.old.items ++ socket_lines setting.now lines socket) }
+        → OnOk result (text.new.items ≡ text.old.items ++ socket_lines setting.now hints.now.metadata lines socket) }
 {
     let sizes = setting.sockets()[socket as usize];
     push_rx(text, setting, judge, socket, sizes.rx)?;
@@ -106,7 +106,7 @@ fn push_tx(
     requires ready { IsReady setting.now judge.now }
     requires has { IsSome size → HasRing setting.now (Tx socket) }
     ensures { (lines : List Line) → StandsFor setting.now judge.now lines → Notes setting.now hints.now lines
-        → OnOk result (text.new.items ≡ text.old.items ++ where_some size (tx_lines setting.now lines socket)) }
+        → OnOk result (text.new.items ≡ text.old.items ++ where_some size (tx_lines setting.now hints.now.metadata lines socket)) }
 {
     if size.is_none() {
         return Ok(());
@@ -132,7 +132,7 @@ fn push_made(
     requires ring { HasRing setting.now ring }
     requires side { made ring ≡ true }
     ensures { (lines : List Line) → StandsFor setting.now judge.now lines → Notes setting.now hints.now lines
-        → OnOk result (text.new.items ≡ text.old.items ++ made_lines setting.now lines ring) }
+        → OnOk result (text.new.items ≡ text.old.items ++ made_lines setting.now hints.now.metadata lines ring) }
 {
     push_oddities(text, setting, hints, ring)?;
     let room = judge.room(setting, ring);
@@ -187,7 +187,7 @@ fn push_oddities(
     requires sized { IsSized setting.now hints.now }
     requires ring { HasRing setting.now ring }
     requires side { made ring ≡ true }
-    ensures { (lines : List Line) → Notes setting.now hints.now lines → OnOk result (text.new.items ≡ text.old.items ++ odd_lines setting.now lines ring) }
+    ensures { (lines : List Line) → Notes setting.now hints.now lines → OnOk result (text.new.items ≡ text.old.items ++ odd_lines setting.now hints.now.metadata lines ring) }
 {
     push_oddity(text, setting, hints, ring, Oddity::Outside)?;
     push_oddity(text, setting, hints, ring, Oddity::Within)?;
@@ -207,7 +207,7 @@ fn push_oddity(
     requires sized { IsSized setting.now hints.now }
     requires ring { HasRing setting.now ring }
     requires side { made ring ≡ true }
-    ensures { (lines : List Line) → Notes setting.now hints.now lines → OnOk result (text.new.items ≡ text.old.items ++ odd_line setting.now lines ring oddity) }
+    ensures { (lines : List Line) → Notes setting.now hints.now lines → OnOk result (text.new.items ≡ text.old.items ++ odd_line setting.now hints.now.metadata lines ring oddity) }
 {
     push_tally(text, ring, words(oddity), hints.odd(setting, ring, oddity))
 }

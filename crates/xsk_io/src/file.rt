@@ -1,4 +1,5 @@
-//! The bay over real files and the standard output.
+//! The bay over real files and the standard output. What files hold is the operating system's: of it nothing is proved
+//! but what each call asked for and was told (`specs/Files`).
 ghost use Rattle.std.specs.Prelude.{◌≡◌, ◌≢◌, ℕ, ◌+◌, ◌-◌, ◌^◌, ◌<◌, ◌≤◌, false, true, None, Ok, min, length, replicate, is_some, IsSome, IfOk, OnOk, OnErr, slice_index, slice_index_or, slice_set};
 ghost use Rattle.xsk_io.specs.Bay.{HasNumber, SameBut};
 ghost use Rattle.xsk_io.specs.Files.{StreamCounts, FilesState, no_counts, no_files, count_of, files_moment, is_file_open};

@@ -1,4 +1,5 @@
-//! Whole inputs and whole texts, over any bay.
+//! Whole inputs and whole texts, over any bay. Each read and write of a command goes by this file: to the end, or to the
+//! first fault, which is counted (`specs/Bay`).
 ghost use Rattle.std.specs.Prelude.{◌≡◌, ◌<◌, ◌≤◌, ◌⊎◌, true, length, IfOk, IfSome, IsErrOf, OnErr, OnOk};
 ghost use Rattle.std.specs.Io.KnownBytes.{IsAtEnd};
 ghost use Rattle.xsk_io.specs.declared.bay.Kind.{Kind};

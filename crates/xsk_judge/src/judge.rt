@@ -1,4 +1,5 @@
-//! The judge, call by call.
+//! The judge, call by call. A step is exact: Ok where the calls so far are possible (`xsk_side/specs/Possible`), and a
+//! reason where not. What is kept stands for all of them (`specs/Stands`), so a step that keeps less is refused there.
 ghost use Rattle.std.specs.Prelude.{◌≡◌, ◌≢◌, ◌+◌, ◌-◌, ◌^◌, ◌<◌, ◌≤◌, ◌↔◌, ◌⊎◌, ℕ, min, [], IfOk, IfErr, IfSome, IsNone, IsTrue, List, ◌∷◌, true, false, length, take};
 ghost use Rattle.xsk_side.specs.Setting.{HasRing, pair_of};
 ghost use Rattle.xsk_side.specs.Object.{is_made as made};

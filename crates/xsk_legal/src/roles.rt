@@ -1,4 +1,5 @@
-//! Which rings and marks are a caller's own.
+//! Which rings and marks are a caller's own. Contracts have the same by `xsk_model/specs/Rings` and
+//! `xsk_model/specs/Marks`; those here say that both are one.
 ghost use Rattle.std.specs.Prelude.{◌≡◌, ◌<◌, ◌↔◌, ℕ, IsTrue, Some};
 ghost use Rattle.xsk_model.specs.Config.{IsConfig, HasRing};
 ghost use Rattle.xsk_model.specs.Rings.{port_of, queue_of, driver_of, app_of, producer, consumer};

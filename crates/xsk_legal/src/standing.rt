@@ -1,4 +1,6 @@
-//! Whether a call is legal after the caller's own earlier calls and replies.
+//! Whether a call is legal after the caller's own earlier calls and replies. It is told nothing but the caller's own
+//! calls and replies, and is exact for each list of these that it stands for (`specs/Standing`): nothing here may look
+//! at the object.
 ghost use Rattle.std.specs.Prelude.{◌≡◌, ◌+◌, ◌^◌, ◌<◌, ◌≤◌, ◌↔◌, ℕ, List, [], ◌∷◌, ◌++◌, length, take, All, IfOk, IfSome, IsTrue, Some};
 ghost use Rattle.std.specs.List.{slice_index_or};
 ghost use Rattle.std.specs.Option.{option_map};

@@ -1,4 +1,5 @@
-//! The lock and its calls.
+//! The lock and its calls. A hand takes the value behind a swap that found 0, and puts it back before it stores 0. That
+//! no two have it at once is the rule of the table (`specs/Rule`), which each step keeps under every interleaving.
 ghost use Rattle.std.specs.Prelude.{◌≡◌, ◌⊎◌, ◌<◌, ◌≤◌, ◌-◌, ℕ, true, false, [], ◌∷◌, ◌++◌, length, get_or, vec_capacity, IsNone, MatchOption, IfOk, IfErr, ◌↔◌};
 ghost use mathlib.Core.Option.{some};
 ghost use lib.ListN.{get_elem?};

@@ -1,4 +1,5 @@
-//! What a seat of the lock's table knows, the rule of the table, and what each of its steps tells.
+//! What a seat of the lock's table knows, the rule of the table, and what each of its steps tells. No value of these
+//! types is made: they say what contracts know (`specs/Rule`, `specs/Plays`).
 use atomic_table::{Join, Play, Split, TableRule};
 use std::marker::PhantomData;
 use std::snapshot::Snapshot;

@@ -1,4 +1,5 @@
-//! The journal's line of an entry of the log, in a buffer of its own.
+//! The journal's line of an entry of the log, in a buffer of its own. The text is that of `specs/Line`, which journals
+//! and audits speak of: it changes there first.
 ghost use Rattle.std.specs.Prelude.{◌≡◌, ◌+◌, ◌*◌, ◌<◌, ◌≤◌, ◌++◌, length, take, sum_by, slice_get, Some, codes, []};
 ghost use Rattle.std.specs.Fmt.{decimal};
 ghost use Rattle.arrayvec.specs.ArrayString.{array_string_len};

@@ -23,12 +23,12 @@ pub struct Lines<'a> {
 
 impl Log {
     ghost use Rattle.xsk_log.specs.Log.{entries_of};
-    ghost use Rattle.xsk_log.specs.Left.{left_of};
+    ghost use Rattle.xsk_log.specs.Left.{left_of, pairs_of};
 
     /// Goes over all entries from the first on. There are so many pairs, whose drivers are the first callers. An engine that knows
     /// its configuration has a call of its own for it.
     pub fn lines(&self, pairs: u32) -> Lines<'_>
-        ensures pairs { result.pairs ≡ pairs }
+        ensures pairs { pairs_of result ≡ pairs }
         ensures all { left_of result ≡ entries_of self.now }
     {
         Lines {
@@ -41,14 +41,14 @@ impl Log {
 }
 
 impl Lines<'_> {
-    ghost use Rattle.xsk_log.specs.Left.{left_of};
+    ghost use Rattle.xsk_log.specs.Left.{left_of, pairs_of};
     ghost use Rattle.xsk_log.specs.Line.{TakesLine};
 
     /// Puts the line of the next entry, as `Log::write_line` has it, in place of what the buffer held, and tells the
     /// entry's caller. Behind the last entry there is none, and the buffer stays. It takes no memory.
     pub fn write_next(&mut self, out: &mut LineBuffer) -> Option<u32>
-        ensures next { TakesLine self.old.pairs (left_of self.old) (left_of self.new) out.old out.new result }
-        ensures pairs { self.new.pairs ≡ self.old.pairs }
+        ensures next { TakesLine (pairs_of self.old) (left_of self.old) (left_of self.new) out.old out.new result }
+        ensures pairs { pairs_of self.new ≡ pairs_of self.old }
     {
         if self.row == self.log.len() {
             return None;

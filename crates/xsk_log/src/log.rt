@@ -1,4 +1,6 @@
-//! The log of all calls and replies, with payloads in place of frames.
+//! The log of all calls and replies, with payloads in place of frames. Room is reserved before calls are made, and
+//! neither `keep`, `note` nor `enter` takes memory: the ghost fields tie rows, pieces and bytes to the room that is
+//! left.
 ghost use Rattle.std.specs.Prelude.{◌≡◌, Some, slice_get, ◌+◌, ◌*◌, ◌<◌, ◌≤◌, ◌^◌, ◌↔◌, [], length, sum_by, vec_len, vec_capacity, All, IsTrue, OnOk};
 ghost use Rattle.xsk_umem.specs.Limits.{most_items};
 ghost use Rattle.xsk_log.specs.Pieces.{IsPieceIn, IsShort, count_of};

@@ -1,4 +1,5 @@
-//! Lists in which many values are equal, so that each value is kept once and the list has its place.
+//! Lists in which many values are equal, so that each value is kept once and the list has its place. To all others it is
+//! a list (`specs/Repeats`): that equal values share a place is seen nowhere.
 ghost use Rattle.std.specs.Prelude.{◌≡◌, ◌+◌, ◌≤◌, ◌↔◌, ◌^◌, ◌<◌, [], ◌∷◌, ◌++◌, Some, length, slice_get, vec_len, vec_capacity, IsTrue, OnOk};
 ghost use Rattle.xsk_log.specs.Repeats.{KeepsValues, of_option};
 

@@ -1,4 +1,5 @@
-//! The rows of the log. One whose numbers are small is a number itself, and any other one stands apart.
+//! The rows of the log. One whose numbers are small is a number itself, and any other one stands apart. Which number
+//! stands for which row is said in `specs/RowCodes`; only this file looks into a number.
 ghost use Rattle.std.specs.Prelude.{◌≡◌, ◌≢◌, ℕ, ◌+◌, ◌<◌, ◌≤◌, ◌^◌, [], ◌∷◌, ◌++◌, Some, length, slice_get, vec_len, vec_capacity, IfSome, IsSome, OnOk};
 ghost use Rattle.xsk_model.specs.MarkKinds.{number_of, index_of};
 ghost use Rattle.xsk_log.specs.declared.log.Event.TheVariants.{Swapped, Looked};

@@ -1,4 +1,5 @@
-//! Drivers and applications as machines of one kind.
+//! Drivers and applications as machines of one kind. An engine knows a worker by this trait alone, and laws of whole
+//! runs speak of what it `stands` for.
 ghost use Rattle.std.specs.Prelude.{◌≡◌, ℕ, None, Some, List, [], length};
 ghost use Rattle.xsk_model.specs.Entry.{Told, with_told};
 ghost use Rattle.xsk_model.specs.Expected.{Expected, CanCome, expected_of};

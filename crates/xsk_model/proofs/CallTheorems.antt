@@ -33,7 +33,7 @@ last_is_gift c frames h e history = record { frames = frames; history = h ++ e �
 pub one_more : OneMore
 one_more c frames h e history legal reply = record { opened = history.opened; legal = goes_push c (opening c frames) [] h e history.legal legal reply }
 
-callers_go : (c : Config) (s : State) (past h : List Entry) → GoesOn c s past h → All (λ (e : Entry). e.who < callers_of c) h
+pub callers_go : (c : Config) (s : State) (past h : List Entry) → GoesOn c s past h → All (λ (e : Entry). e.who < callers_of c) h
 callers_go c s past [] goes = All-nil (λ (e : Entry). e.who < callers_of c)
 callers_go c s past (e ∷ es) goes =
     All-cons (λ (x : Entry). x.who < callers_of c) e es goes.0.caller (callers_go c (after c s e.who e.call) (past ++ e ∷ []) es goes.2)
@@ -56,7 +56,8 @@ leaves_state c frames h e history no_change =
 pub changes_state : ChangesState
 changes_state c frames h e history change same =
     let entry = history_entry c frames h [] e history in
-    changes_call c frames h e.who e.call (history_first c frames h (e ∷ []) history) entry.0 (subst (λ reply. changes e.call reply ≡ true) entry.1 change)
+    let sound = history_sound c frames h (history_first c frames h (e ∷ []) history) in
+    changes_call c (opening c frames) (state_after c frames h) h e.who e.call history.opened.config sound entry.0 (subst (λ reply. changes e.call reply ≡ true) entry.1 change)
     (sym (state_push c frames h e) ∙ same)
 
 -- ---- marks

@@ -2,7 +2,6 @@
 use Rattle.std.proofs.Common.{◌≡◌, ◌≢◌, ℕ, zero, suc, ◌+◌, ◌≤◌, Bool, true, false, cond, not, eqb, nat_le, List, [], ◌∷◌, ◌++◌, length, get_or, set, take, drop, refl, sym, ap, ◌∙◌, ⊎_elim, arith, append-nil, length-append, length-drop, get_or-set_same, get_or-set_other, eqb-true, eq-eqb}
 use Rattle.std.proofs.lemmas.Bool.{cases_Bool}
 use Rattle.std.proofs.lemmas.List.{set-get_or}
-use Rattle.xsk_umem.specs.Frame.{Frame}
 use Rattle.xsk_umem.specs.declared.batch.Item.{Item}
 use Rattle.xsk_model.specs.Config.{Config, IsConfig, HasRing, size_of}
 use Rattle.xsk_model.specs.Numbers.{numbers, without}
@@ -12,7 +11,6 @@ use Rattle.xsk_model.specs.Object.{RingState, State, empty_ring, ring_at, mark_a
 use Rattle.xsk_model.specs.Entry.{Told, Entry, own}
 use Rattle.xsk_model.specs.Own.{is_on}
 use Rattle.xsk_model.specs.Legal.{IsLegal}
-use Rattle.xsk_model.specs.History.{IsHistory, state_after}
 use Rattle.xsk_model.specs.OtherWords.{changes}
 use Rattle.xsk_model.specs.declared.call.Ring.{Ring}
 use Rattle.xsk_model.specs.declared.call.Mark.{Mark}
@@ -23,8 +21,8 @@ use Rattle.xsk_model.specs.declared.call.Reply.TheVariants.{Granted, Full, Old}
 use Rattle.xsk_model.proofs.Places.{is_ring-self, place_below}
 use Rattle.xsk_model.proofs.MarkPlaces.{mark_place_below, mark_place_injective}
 use Rattle.xsk_model.proofs.Moves.{ring_at-after_same}
-use Rattle.xsk_model.proofs.Histories.{history_sound}
-use Rattle.xsk_model.proofs.Theorems.{legal_within_ring}
+use Rattle.xsk_model.proofs.Histories.{IsSoundFrom}
+use Rattle.xsk_model.proofs.Counts.{within_ring}
 
 -- ---- calls that leave the state
 
@@ -110,47 +108,43 @@ taken_changes r n (item ∷ out) h = omega arith
 other_number : (m : Mark) (value old : ℕ) → changes (Swap m value) (Old old) ≡ true → old ≢ value
 other_number m value old h e = absurd (cc (ap not (eq-eqb old value e), h))
 
-module _ (c : Config) (frames : List Frame) (h : List Entry) (who : ℕ) (call : Call) (history : IsHistory c frames h)
-    (legal : IsLegal c (own who h) who call) (same : after c (state_after c frames h) who call ≡ state_after c frames h) where
-  ring_stays : (r : Ring) → HasRing c r → is_on r call ≡ true → ring_after (size_of c r) (ring_at c (state_after c frames h) r) call ≡ ring_at c (state_after c frames h) r
+module _ (c : Config) (start s : State) (h : List Entry) (who : ℕ) (call : Call) (sound : IsSoundFrom c start s h)
+    (legal : IsLegal c (own who h) who call) (same : after c s who call ≡ s) where
+  ring_stays : (r : Ring) → HasRing c r → is_on r call ≡ true → ring_after (size_of c r) (ring_at c s r) call ≡ ring_at c s r
   ring_stays r has on =
-      let rings = (history_sound c frames h history).rings in
-      sym (ring_at-after_same c (state_after c frames h) who call r has legal.known (omega (arith, rings, place_below c r has)) on)
-      ∙ ap (λ s. ring_at c s r) same
+      sym (ring_at-after_same c s who call r has legal.known (omega (arith, sound.rings, place_below c r has)) on) ∙ ap (λ x. ring_at c x r) same
 
-pub changes_call : (c : Config) (frames : List Frame) (h : List Entry) (who : ℕ) (call : Call) → IsHistory c frames h → IsLegal c (own who h) who call
-    → changes call (reply_at c (state_after c frames h) call) ≡ true → after c (state_after c frames h) who call ≢ state_after c frames h
-changes_call c frames h who (Reserve r n) history legal k same =
-    let ring : RingState = ring_at c (state_after c frames h) r in
+pub changes_call : (c : Config) (start s : State) (h : List Entry) (who : ℕ) (call : Call) → IsConfig c → IsSoundFrom c start s h → IsLegal c (own who h) who call
+    → changes call (reply_at c s call) ≡ true → after c s who call ≢ s
+changes_call c start s h who (Reserve r n) config sound legal k same =
+    let ring : RingState = ring_at c s r in
     let places : ℕ = free (size_of c r) ring in
     let there : nat_le n places ≡ true = granted_changes r n places (nat_le n places) k in
     let stays : (cond (nat_le n places) (record ring { room = ring.room + n }) ring).room ≡ ring.room =
-    ap (λ (x : RingState). x.room) (ring_stays c frames h who (Reserve r n) history legal same r legal.known (is_ring-self r)) in
+    ap (λ (x : RingState). x.room) (ring_stays c start s h who (Reserve r n) sound legal same r legal.known (is_ring-self r)) in
     let grows : ring.room + n ≡ ring.room = ap (λ b. (cond b (record ring { room = ring.room + n }) ring).room) (sym there) ∙ stays in
     omega (arith, grows, legal.counted.0)
-changes_call c frames h who (Submit r items) history legal k same =
-    let ring : RingState = ring_at c (state_after c frames h) r in
+changes_call c start s h who (Submit r items) config sound legal k same =
+    let ring : RingState = ring_at c s r in
     let stays : length (ring.out ++ items) ≡ length ring.out =
-    ap (λ (x : RingState). length x.out) (ring_stays c frames h who (Submit r items) history legal same r legal.known (is_ring-self r)) in
+    ap (λ (x : RingState). length x.out) (ring_stays c start s h who (Submit r items) sound legal same r legal.known (is_ring-self r)) in
     omega (arith, stays, length-append ring.out items, legal.counted.0)
-changes_call c frames h who (Peek r n) history legal k same =
-    let ring : RingState = ring_at c (state_after c frames h) r in
+changes_call c start s h who (Peek r n) config sound legal k same =
+    let ring : RingState = ring_at c s r in
     let stays : length (drop n ring.out) ≡ length ring.out =
-    ap (λ (x : RingState). length x.out) (ring_stays c frames h who (Peek r n) history legal same r legal.known (is_ring-self r)) in
+    ap (λ (x : RingState). length x.out) (ring_stays c start s h who (Peek r n) sound legal same r legal.known (is_ring-self r)) in
     omega (arith, stays, length-drop n ring.out, taken_changes r n ring.out k, legal.counted.0)
-changes_call c frames h who (Release r n) history legal k same =
-    let ring : RingState = ring_at c (state_after c frames h) r in
+changes_call c start s h who (Release r n) config sound legal k same =
+    let ring : RingState = ring_at c s r in
     let stays : length (drop n ring.held) ≡ length ring.held =
-    ap (λ (x : RingState). length x.held) (ring_stays c frames h who (Release r n) history legal same r legal.known (is_ring-self r)) in
-    let within : n ≤ length ring.held = legal_within_ring c frames h who (Release r n) r history legal (is_ring-self r) in
+    ap (λ (x : RingState). length x.held) (ring_stays c start s h who (Release r n) sound legal same r legal.known (is_ring-self r)) in
+    let within : n ≤ length ring.held = within_ring c (ring_at c start r).out h who (Release r n) r ring legal (is_ring-self r) (sound.ring r legal.known) in
     omega (arith, stays, length-drop n ring.held, within, legal.counted.0)
-changes_call c frames h who (Swap m value) history legal k same =
-    let marks = (history_sound c frames h history).marks in
-    let s : State = state_after c frames h in
+changes_call c start s h who (Swap m value) config sound legal k same =
     let now : get_or (set s.marks (mark_place c m) value) (mark_place c m) 0 ≡ value =
-    get_or-set_same s.marks (mark_place c m) value 0 (omega (arith, marks, mark_place_below c m history.opened.config legal.known)) in
+    get_or-set_same s.marks (mark_place c m) value 0 (omega (arith, sound.marks, mark_place_below c m config legal.known)) in
     other_number m value (mark_at c s m) k (sym (ap (λ (x : State). mark_at c x m) same) ∙ now)
-changes_call c frames h who (Look m) history legal k same = absurd (cc)
+changes_call c start s h who (Look m) config sound legal k same = absurd (cc)
 
 -- ---- marks
 

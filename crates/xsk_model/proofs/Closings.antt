@@ -18,7 +18,8 @@ use Rattle.xsk_model.specs.Own.{is_on, part_of, granted, room_step, room_of, sub
 use Rattle.xsk_model.specs.Swaps.{set_after, set_step, last_set, number_in, seen_after, seen_step, last_seen, MaySwap, IsFed, MayFeed}
 use Rattle.xsk_model.specs.Legal.{HasRole, IsLegal}
 use Rattle.xsk_model.specs.Opening.{opening}
-use Rattle.xsk_model.specs.History.{OwnGoesOn, GoesOn, after_all, IsHistory, state_after}
+use Rattle.xsk_model.specs.History.{OwnGoesOn, GoesOn, after_all, IsHistory, IsHistoryFrom, state_after}
+use Rattle.xsk_model.specs.StartLaws.{ClosedCellsFrom}
 use Rattle.xsk_model.specs.Ends.{Telling, telling_after, telling_step, telling_of}
 use Rattle.xsk_model.specs.OtherWords.{HasOpenRole, IsLegalOpen}
 use Rattle.xsk_model.specs.Sent.{sockets_of, completed_in, sent_from, bounced_in, bounced_of, all_sent_from}
@@ -35,7 +36,7 @@ use Rattle.xsk_model.proofs.Folds.{own-push_same, own-push_other, part_of-push_s
 use Rattle.xsk_model.proofs.Changes.{mark_set, mark_stays}
 use Rattle.xsk_model.proofs.MarkNumbers.{opening_mark_is}
 use Rattle.xsk_model.proofs.Histories.{IsSound, sound_step, history_first, history_sound, goes_rest, after_all-append}
-use Rattle.xsk_model.proofs.Along.{Keeps, along}
+use Rattle.xsk_model.proofs.Along.{Keeps, KeepsFrom, along, along_from}
 use Rattle.xsk_model.proofs.OwnRuns.{own_all}
 use Rattle.xsk_model.proofs.Theorems.{mark_numbers}
 
@@ -143,12 +144,12 @@ record IsCleared (c : Config) (x index : ℕ) (s : State) (past : List Entry) : 
   lowered : (who : ℕ) → last_set (Cell (port_of c (Rx x)) index) (own who past) ≡ Some 0 → mark_at c s (Cell (port_of c (Rx x)) index) ≡ 0
   closed : mark_at c s (Closing x) ≡ 1 → mark_at c s (Cell (port_of c (Rx x)) index) ≡ 0
 
-module _ (c : Config) (frames : List Frame) (x index : ℕ) (config : IsConfig c) (has : HasMark c (Closing x)) (cell : HasMark c (Cell (port_of c (Rx x)) index))
+module _ (c : Config) (start : State) (x index : ℕ) (config : IsConfig c) (has : HasMark c (Closing x)) (cell : HasMark c (Cell (port_of c (Rx x)) index))
     (holds : HoldsClosing c (port_of c (Rx x)) index x) where
   abbrev here : Mark
   here = Cell (port_of c (Rx x)) index
 
-  keeps_cleared : Keeps c frames (IsCleared c x index)
+  keeps_cleared : KeepsFrom c start (IsCleared c x index)
   keeps_cleared s past e sound legal reply h =
       elim (sets_or_leaves here e.call) [
         | inl set ↦
@@ -173,7 +174,13 @@ pub closed_cells : ClosedCells
 closed_cells c frames h x index history has closed cell holds =
     let first : mark_at c (opening c frames) (Closing x) ≡ 0 = opening_mark_is c frames (Closing x) history.opened.config has in
     let start : IsCleared c x index (opening c frames) [] = record { lowered = λ who is. absurd (cc); closed = λ is. absurd (omega (arith, first, is)) } in
-    (along (IsCleared c x index) c frames h history (keeps_cleared c frames x index history.opened.config has cell holds) start).closed closed
+    (along (IsCleared c x index) c frames h history (keeps_cleared c (opening c frames) x index history.opened.config has cell holds) start).closed closed
+
+pub closed_from : ClosedCellsFrom
+closed_from c start h x index history has closed cell holds =
+    let first : mark_at c start (Closing x) ≡ 0 = history.begins.mark (Closing x) has in
+    let cleared : IsCleared c x index start [] = record { lowered = λ who is. absurd (cc); closed = λ is. absurd (omega (arith, first, is)) } in
+    (along_from (IsCleared c x index) c start h history (keeps_cleared c start x index history.begins.config has cell holds) cleared).closed closed
 
 -- a caller's last look at Closing was answered 1 only where it is 1, and so it is where Acked is 1
 record IsSeen (c : Config) (x : ℕ) (s : State) (past : List Entry) : Type 0 where
@@ -199,8 +206,8 @@ seen_now c s m before (Look n) reply is was h = by (is_mark m n) refl (ap (λ y.
         ap (mark_at c s) (is_mark-true m n (sym e)) ∙ one
     by false e k = was k
 
-module _ (c : Config) (frames : List Frame) (x : ℕ) (config : IsConfig c) (has : HasMark c (Closing x)) where
-  keeps_seen : Keeps c frames (IsSeen c x)
+module _ (c : Config) (start : State) (x : ℕ) (config : IsConfig c) (has : HasMark c (Closing x)) where
+  keeps_seen : KeepsFrom c start (IsSeen c x)
   keeps_seen s past e sound legal reply h =
       elim (sets_or_leaves (Closing x) e.call) [
         | inl set ↦
@@ -228,7 +235,7 @@ module _ (c : Config) (frames : List Frame) (x : ℕ) (config : IsConfig c) (has
 is_seen : (c : Config) (frames : List Frame) (h : List Entry) (x : ℕ) → IsHistory c frames h → HasMark c (Acked x) → IsSeen c x (state_after c frames h) h
 is_seen c frames h x history has =
     let first : mark_at c (opening c frames) (Acked x) ≡ 0 = opening_mark_is c frames (Acked x) history.opened.config has in
-    along (IsSeen c x) c frames h history (keeps_seen c frames x history.opened.config has)
+    along (IsSeen c x) c frames h history (keeps_seen c (opening c frames) x history.opened.config has)
     (record { seen = λ who is. absurd (cc); acked = λ is. absurd (omega (arith, first, is)) })
 
 pub acked_is_closed : AckedIsClosed
@@ -237,6 +244,13 @@ acked_is_closed c frames h x history has acked = (is_seen c frames h x history h
 pub seen_is_closed : (c : Config) (frames : List Frame) (h : List Entry) (x who : ℕ) → IsHistory c frames h → HasMark c (Closing x) → last_seen (Closing x) (own who h) ≡ Some 1
     → mark_at c (state_after c frames h) (Closing x) ≡ 1
 seen_is_closed c frames h x who history has is = (is_seen c frames h x history has).seen who is
+
+pub seen_from : (c : Config) (start : State) (h : List Entry) (x who : ℕ) → IsHistoryFrom c start h → HasMark c (Closing x) → last_seen (Closing x) (own who h) ≡ Some 1
+    → mark_at c (after_all c start h) (Closing x) ≡ 1
+seen_from c start h x who history has is =
+    let first : mark_at c start (Acked x) ≡ 0 = history.begins.mark (Acked x) has in
+    (along_from (IsSeen c x) c start h history (keeps_seen c start x history.begins.config has)
+    (record { seen = λ who is. absurd (cc); acked = λ is. absurd (omega (arith, first, is)) })).seen who is
 
 -- ---- ended rings
 

@@ -19,7 +19,7 @@ use Rattle.xsk_model.proofs.MarkNumbers.{opening_mark_is}
 -- ---- rings
 
 -- the ring of each pool
-home_rings-pool : (g : Geometry) (pool pairs : ℕ) (frames : List Frame) (d k : ℕ) → d < pairs → d * pool ≡ k
+pub home_rings-pool : (g : Geometry) (pool pairs : ℕ) (frames : List Frame) (d k : ℕ) → d < pairs → d * pool ≡ k
     → get_or (home_rings g pool pairs frames) d empty_ring ≡ home_ring g (take pool (drop k frames))
 home_rings-pool g pool zero frames d k h e = absurd (omega arith)
 home_rings-pool g pool (suc pairs) frames zero k h e =

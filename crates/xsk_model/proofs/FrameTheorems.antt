@@ -1,5 +1,6 @@
 -- The laws of frames, of the opening and of counts, proved.
 use Rattle.std.proofs.Common.{◌∷◌}
+use Rattle.xsk_model.specs.Opening.{opening}
 use Rattle.xsk_model.specs.History.{state_after}
 use Rattle.xsk_model.specs.Laws.{FramesStay, FramesApart, FramesBelow, SubmitsOwn, OpeningIs, HeldAndOut, CountsGrow, PeekFinds, ReserveFinds}
 use Rattle.xsk_model.proofs.Histories.{history_first, history_sound}
@@ -17,22 +18,22 @@ frames_stay c frames h n history =
 pub frames_apart : FramesApart
 frames_apart c frames h history =
     let sound = history_sound c frames h history in (
-      λ who other apart. callers_apart c frames (state_after c frames h) h sound who other apart,
-      λ who r. caller_ring_apart c frames (state_after c frames h) h sound who r,
-      λ r q has too apart. rings_apart c frames (state_after c frames h) h sound r q has too apart,
+      λ who other apart. callers_apart c (opening c frames) (state_after c frames h) h sound who other apart,
+      λ who r. caller_ring_apart c (opening c frames) (state_after c frames h) h sound who r,
+      λ r q has too apart. rings_apart c (opening c frames) (state_after c frames h) h sound r q has too apart,
     )
 
 pub frames_below : FramesBelow
 frames_below c frames h history =
     let sound = history_sound c frames h history in
-    (λ who. caller_below c frames (state_after c frames h) h sound who, λ r. ring_below c frames (state_after c frames h) h sound r)
+    (λ who. caller_below c (opening c frames) (state_after c frames h) h sound who, λ r. ring_below c (opening c frames) (state_after c frames h) h sound r)
 
 pub submits_own : SubmitsOwn
 submits_own c frames past later e history =
     let legal = (history_entry c frames past later e history).0 in
     let sound = history_sound c frames past (history_first c frames past (e ∷ later) history) in (
-      λ other apart. submitted_callers c frames (state_after c frames past) past sound e.who other e.call legal apart,
-      λ r. submitted_rings c frames (state_after c frames past) past sound e.who e.call r legal,
+      λ other apart. submitted_callers c (opening c frames) (state_after c frames past) past sound e.who other e.call legal apart,
+      λ r. submitted_rings c (opening c frames) (state_after c frames past) past sound e.who e.call r legal,
     )
 
 pub opening_is : OpeningIs

@@ -28,6 +28,8 @@ pub mod Counts
 pub mod Along
 pub mod Apart
 pub mod FirstState
+pub mod Starts
+pub mod StartTheorems
 pub mod Stays
 pub mod Released
 pub mod FrameTheorems

@@ -99,7 +99,7 @@ opening_mark_is c frames (Closing s) config h = no_last c frames (Closing s) con
 opening_mark_is c frames (Acked s) config h = no_last c frames (Acked s) config (omega arith)
 opening_mark_is c frames (Bounced d) config h = no_last c frames (Bounced d) config (omega arith)
 
-first_number : (c : Config) (m : Mark) → IsMarkNumber c m (first_mark c m)
+pub first_number : (c : Config) (m : Mark) → IsMarkNumber c m (first_mark c m)
 first_number c (NeedFill d) = omega arith
 first_number c (NeedTx s) = omega arith
 first_number c (Kick d) = omega arith

@@ -14,7 +14,7 @@ use Rattle.xsk_model.specs.Numbers.{times, numbers}
 use Rattle.xsk_model.specs.Rings.{place, places_of}
 use Rattle.xsk_model.specs.Marks.{mark_places_of, flags_of}
 use Rattle.xsk_model.specs.Object.{RingState, empty_ring, ring_at, had_by}
-use Rattle.xsk_model.specs.Legal.{IsItemOn}
+use Rattle.xsk_model.specs.Legal.{IsPlainOn, IsItemOn}
 use Rattle.xsk_model.specs.Opening.{AreFrames, IsOpened, home_item, home_rings, opening_cells, opening}
 use Rattle.xsk_model.specs.Holders.{holders, out_numbers}
 use Rattle.xsk_model.specs.declared.call.Ring.{Ring}
@@ -31,7 +31,7 @@ get_or-blanks [] (suc m) (suc k) d = get_or-blanks [] m k d
 get_or-blanks (x ∷ xs) m zero d = refl
 get_or-blanks (x ∷ xs) m (suc k) d = get_or-blanks xs m k d
 
-flat_map-blanks : {X : Type 0} (f : X → List ℕ) (m : ℕ) (d : X) → f d ≡ [] → flat_map f (replicate m d) ≡ []
+pub flat_map-blanks : {X : Type 0} (f : X → List ℕ) (m : ℕ) (d : X) → f d ≡ [] → flat_map f (replicate m d) ≡ []
 flat_map-blanks f zero d h = refl
 flat_map-blanks f (suc m) d h = ap (λ xs. xs ++ flat_map f (replicate m d)) h ∙ flat_map-blanks f m d h
 
@@ -81,8 +81,9 @@ frame_of-base g n geometry h =
     let test : nat_lt (n * g.chunk) (g.frames * g.chunk) ≡ true = lt-ltb (n * g.chunk) (g.frames * g.chunk) inside in
     ap (λ b. cond b (Some ((n * g.chunk) / g.chunk)) None) test ∙ ap Some (mul-div_cancel n some)
 
-pub home_item_lawful : (g : Geometry) (d : ℕ) (f : Frame) → IsGeometry g → IsWhole g f → IsItemOn g (Fill d) (home_item g f)
-home_item_lawful g d f geometry h =
+-- on a ring that passes on addresses alone
+pub home_item_on : (g : Geometry) (r : Ring) (f : Frame) → IsGeometry g → IsWhole g f → IsPlainOn r (home_item g f).desc → IsItemOn g r (home_item g f)
+home_item_on g r f geometry h plain =
     let few : f.number < 4096 = omega (arith, h.number, geometry.few) in
     let chunk : g.chunk ≤ 4096 = omega (arith, geometry.chunk) in
     record {
@@ -91,8 +92,11 @@ home_item_lawful g d f geometry h =
       options = omega arith;
       frame = sym (frame_of-base g f.number geometry h.number);
       body = h.bytes;
-      plain = (refl, refl);
+      plain = plain;
     }
+
+pub home_item_lawful : (g : Geometry) (d : ℕ) (f : Frame) → IsGeometry g → IsWhole g f → IsItemOn g (Fill d) (home_item g f)
+home_item_lawful g d f geometry h = home_item_on g (Fill d) f geometry h (refl, refl)
 
 -- ---- the FILL rings
 
@@ -126,7 +130,7 @@ pub numbers-home : (g : Geometry) (frames : List Frame) → numbers (map (home_i
 numbers-home g [] = refl
 numbers-home g (f ∷ frames) = ap (λ ns. f.number ∷ ns) (numbers-home g frames)
 
-flat_map-home_rings : (g : Geometry) (pool pairs : ℕ) (frames : List Frame) → length frames ≡ pairs * pool
+pub flat_map-home_rings : (g : Geometry) (pool pairs : ℕ) (frames : List Frame) → length frames ≡ pairs * pool
     → flat_map out_numbers (home_rings g pool pairs frames) ≡ map (λ (f : Frame). f.number) frames
 flat_map-home_rings g pool zero frames h =
     ap (map (λ (f : Frame). f.number)) (sym (nil_from_length frames (omega arith)))

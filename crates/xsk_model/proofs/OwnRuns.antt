@@ -8,27 +8,27 @@ use Rattle.xsk_model.specs.Object.{State, taken, after}
 use Rattle.xsk_model.specs.Entry.{Told, Entry, told, own}
 use Rattle.xsk_model.specs.Legal.{IsLegal}
 use Rattle.xsk_model.specs.Opening.{opening}
-use Rattle.xsk_model.specs.History.{GoesOn, IsHistory, Fits, AreFresh, OwnGoesOn}
+use Rattle.xsk_model.specs.History.{GoesOn, IsHistory, IsHistoryFrom, Fits, AreFresh, OwnGoesOn}
 use Rattle.xsk_model.specs.declared.call.Ring.{Ring}
 use Rattle.xsk_model.specs.declared.call.Call.{Call}
 use Rattle.xsk_model.specs.declared.call.Call.TheVariants.{Reserve, Submit, Peek, Release, Swap, Look}
 use Rattle.xsk_model.specs.declared.call.Reply.{Reply}
 use Rattle.xsk_model.specs.declared.call.Reply.TheVariants.{Granted, Full, Submitted, Items, Empty, Released, Old}
 use Rattle.xsk_model.proofs.Folds.{own-push_same, own-push_other}
-use Rattle.xsk_model.proofs.Histories.{IsSound, sound_step, opening_sound}
-use Rattle.xsk_model.proofs.Replies.{reply_fits}
+use Rattle.xsk_model.proofs.Histories.{IsSoundFrom, step_from, opening_sound, start_sound}
+use Rattle.xsk_model.proofs.Replies.{fits_from}
 
 -- ---- own entries of a history
 
-pub own_goes : (c : Config) (frames : List Frame) (s : State) (past h : List Entry) (who : ℕ) → IsConfig c → IsSound c frames s past → GoesOn c s past h
+pub own_goes : (c : Config) (start s : State) (past h : List Entry) (who : ℕ) → IsConfig c → IsSoundFrom c start s past → GoesOn c s past h
     → OwnGoesOn c who (own who past) (own who h)
-own_goes c frames s past [] who config sound goes = tt
-own_goes c frames s past (e ∷ es) who config sound goes =
+own_goes c start s past [] who config sound goes = tt
+own_goes c start s past (e ∷ es) who config sound goes =
     let later : OwnGoesOn c who (own who (past ++ e ∷ [])) (own who es) =
-    own_goes c frames (after c s e.who e.call) (past ++ e ∷ []) es who config (sound_step c frames s past e config sound goes.0 goes.1) goes.2 in
+    own_goes c start (after c s e.who e.call) (past ++ e ∷ []) es who config (step_from c start s past e config sound goes.0 goes.1) goes.2 in
     ⊎_elim
     (λ (one : e.who ≡ who).
-    let fits : Fits c (own e.who past) e.call e.reply = subst (Fits c (own e.who past) e.call) (sym goes.1) (reply_fits c frames s past e.who e.call sound goes.0) in
+    let fits : Fits c (own e.who past) e.call e.reply = subst (Fits c (own e.who past) e.call) (sym goes.1) (fits_from c start s past e.who e.call sound goes.0) in
     let here : OwnGoesOn c who (own who past) (told e ∷ own who es) = (
       subst (λ w. IsLegal c (own w past) w e.call) one goes.0,
       subst (λ w. Fits c (own w past) e.call e.reply) one fits,
@@ -42,7 +42,10 @@ own_goes c frames s past (e ∷ es) who config sound goes =
 
 pub history_own : (c : Config) (frames : List Frame) (h : List Entry) (who : ℕ) → IsHistory c frames h → OwnGoesOn c who [] (own who h)
 history_own c frames h who history =
-    own_goes c frames (opening c frames) [] h who history.opened.config (opening_sound c frames history.opened) history.legal
+    own_goes c (opening c frames) (opening c frames) [] h who history.opened.config (opening_sound c frames history.opened) history.legal
+
+pub own_from : (c : Config) (start : State) (h : List Entry) (who : ℕ) → IsHistoryFrom c start h → OwnGoesOn c who [] (own who h)
+own_from c start h who history = own_goes c start start [] h who history.begins.config (start_sound c start history.begins) history.legal
 
 -- ---- what holds along own entries
 

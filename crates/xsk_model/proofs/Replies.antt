@@ -12,7 +12,7 @@ use Rattle.xsk_model.specs.Object.{State, empty_ring, ring_at, free, peek_reply,
 use Rattle.xsk_model.specs.Entry.{Told, Entry, told, own}
 use Rattle.xsk_model.specs.Own.{had_of}
 use Rattle.xsk_model.specs.Legal.{IsLegal, IsItemOn}
-use Rattle.xsk_model.specs.History.{GoesOn, IsHistory, state_after, MayGive, Fits}
+use Rattle.xsk_model.specs.History.{GoesOn, after_all, IsHistory, IsHistoryFrom, state_after, MayGive, Fits}
 use Rattle.xsk_model.specs.Opening.{opening}
 use Rattle.xsk_model.specs.Holders.{out_numbers}
 use Rattle.xsk_model.specs.declared.call.Ring.{Ring}
@@ -21,7 +21,7 @@ use Rattle.xsk_model.specs.declared.call.Call.TheVariants.{Reserve, Submit, Peek
 use Rattle.xsk_model.specs.declared.call.Reply.{Reply}
 use Rattle.xsk_model.specs.declared.call.Reply.TheVariants.{Granted, Full, Submitted, Items, Empty, Released, Old}
 use Rattle.xsk_model.proofs.Counting.{times-append, times-range_past, times-range_within, numbers-append}
-use Rattle.xsk_model.proofs.Histories.{IsSound, history_first, history_sound, goes_rest}
+use Rattle.xsk_model.proofs.Histories.{IsSoundFrom, IsSound, history_first, history_sound, first_from, sound_from, goes_rest}
 use Rattle.xsk_model.specs.Expected.{IsReplyTo}
 
 -- ---- one holder
@@ -40,9 +40,9 @@ times-piece n f (x ∷ xs) zero d h = omega (arith, times-append n (f x) (flat_m
 times-piece n f (x ∷ xs) (suc i) d h = omega (arith, times-append n (f x) (flat_map f xs), times-piece n f xs i d h)
 
 -- a caller and a ring have each frame once at most between them
-pub times-apart : (c : Config) (frames : List Frame) (s : State) (past : List Entry) (who k n : ℕ) → IsSound c frames s past
+pub times-apart : (c : Config) (start s : State) (past : List Entry) (who k n : ℕ) → IsSoundFrom c start s past
     → times n (had_of (own who past)) + times n (out_numbers (get_or s.rings k empty_ring)) ≤ 1
-times-apart c frames s past who k n h =
+times-apart c start s past who k n h =
     let mine = times-piece n (λ (had : List ℕ). had) s.had who [] refl in
     let ring = times-piece n out_numbers s.rings k empty_ring refl in
     let all = times-append n (flat_map (λ (had : List ℕ). had) s.had) (flat_map out_numbers s.rings) in
@@ -50,7 +50,7 @@ times-apart c frames s past who k n h =
 
 pub times-had : (c : Config) (frames : List Frame) (s : State) (past : List Entry) (who n : ℕ) → IsSound c frames s past
     → times n (had_of (own who past)) ≤ 1
-times-had c frames s past who n h = omega (arith, times-apart c frames s past who 0 n h)
+times-had c frames s past who n h = omega (arith, times-apart c (opening c frames) s past who 0 n h)
 
 pub times-take : (n k : ℕ) (items : List Item) → times n (numbers (take k items)) ≤ times n (numbers items)
 times-take n k items =
@@ -74,17 +74,21 @@ peek_fits c mine r n (item ∷ out) some lawful apart =
       fresh = λ k. omega (arith, apart k, times-take k n (item ∷ out));
     }
 
+pub fits_from : (c : Config) (start s : State) (past : List Entry) (who : ℕ) (call : Call) → IsSoundFrom c start s past
+    → IsLegal c (own who past) who call → Fits c (own who past) call (reply_at c s call)
+fits_from c start s past who (Reserve r n) h legal =
+    reserve_fits c (own who past) r n (free (size_of c r) (ring_at c s r)) (nat_le n (free (size_of c r) (ring_at c s r))) refl
+fits_from c start s past who (Submit r items) h legal = tt
+fits_from c start s past who (Peek r n) h legal =
+    peek_fits c (own who past) r n (ring_at c s r).out legal.counted.0 (h.ring r legal.known).items
+    (λ k. times-apart c start s past who (place c r) k h)
+fits_from c start s past who (Release r n) h legal = tt
+fits_from c start s past who (Swap m value) h legal = h.numbers m legal.known
+fits_from c start s past who (Look m) h legal = h.numbers m legal.known
+
 pub reply_fits : (c : Config) (frames : List Frame) (s : State) (past : List Entry) (who : ℕ) (call : Call) → IsSound c frames s past
     → IsLegal c (own who past) who call → Fits c (own who past) call (reply_at c s call)
-reply_fits c frames s past who (Reserve r n) h legal =
-    reserve_fits c (own who past) r n (free (size_of c r) (ring_at c s r)) (nat_le n (free (size_of c r) (ring_at c s r))) refl
-reply_fits c frames s past who (Submit r items) h legal = tt
-reply_fits c frames s past who (Peek r n) h legal =
-    peek_fits c (own who past) r n (ring_at c s r).out legal.counted.0 (h.ring r legal.known).items
-    (λ k. times-apart c frames s past who (place c r) k h)
-reply_fits c frames s past who (Release r n) h legal = tt
-reply_fits c frames s past who (Swap m value) h legal = h.numbers m legal.known
-reply_fits c frames s past who (Look m) h legal = h.numbers m legal.known
+reply_fits c frames s past who call h legal = fits_from c (opening c frames) s past who call h legal
 
 -- an entry of a history: legal, with the object's reply
 pub history_entry : (c : Config) (frames : List Frame) (past later : List Entry) (e : Entry) → IsHistory c frames (past ++ e ∷ later)
@@ -99,6 +103,20 @@ entry_fits c frames past later e history =
     let entry = history_entry c frames past later e history in
     let sound = history_sound c frames past (history_first c frames past (e ∷ later) history) in
     subst (Fits c (own e.who past) e.call) (sym entry.1) (reply_fits c frames (state_after c frames past) past e.who e.call sound entry.0)
+
+-- so in a history from any start
+pub entry_from : (c : Config) (start : State) (past later : List Entry) (e : Entry) → IsHistoryFrom c start (past ++ e ∷ later)
+    → IsLegal c (own e.who past) e.who e.call × (e.reply ≡ reply_at c (after_all c start past) e.call)
+entry_from c start past later e history =
+    let rest : GoesOn c (after_all c start past) past (e ∷ later) = goes_rest c start [] past (e ∷ later) history.legal in
+    (rest.0, rest.1)
+
+pub entry_fits_from : (c : Config) (start : State) (past later : List Entry) (e : Entry) → IsHistoryFrom c start (past ++ e ∷ later)
+    → Fits c (own e.who past) e.call e.reply
+entry_fits_from c start past later e history =
+    let entry = entry_from c start past later e history in
+    let sound = sound_from c start past (first_from c start past (e ∷ later) history) in
+    subst (Fits c (own e.who past) e.call) (sym entry.1) (fits_from c start (after_all c start past) past e.who e.call sound entry.0)
 
 -- ---- the last of a caller's own entries
 

@@ -13,7 +13,7 @@ use Rattle.xsk_model.specs.Entry.{Entry, told, own}
 use Rattle.xsk_model.specs.Own.{had_of, is_on}
 use Rattle.xsk_model.specs.Legal.{IsLegal, IsKnown, HasRole}
 use Rattle.xsk_model.specs.Opening.{IsOpened, opening}
-use Rattle.xsk_model.specs.History.{IsHistory, state_after}
+use Rattle.xsk_model.specs.History.{after_all, IsHistory, IsHistoryFrom, state_after}
 use Rattle.xsk_model.specs.Holders.{out_numbers}
 use Rattle.xsk_model.specs.Homes.{home_app, serves}
 use Rattle.xsk_model.specs.declared.call.Ring.{Ring}
@@ -27,7 +27,7 @@ use Rattle.xsk_model.proofs.Moves.{taken-peek, cond-taken, ring_count, ring_at-a
 use Rattle.xsk_model.proofs.Roles.{pair_on_found, ring_placed}
 use Rattle.xsk_model.proofs.Replies.{times-take}
 use Rattle.xsk_model.proofs.FirstState.{opening_numbers, opening_ring_is}
-use Rattle.xsk_model.proofs.Along.{Keeps, along}
+use Rattle.xsk_model.proofs.Along.{KeepsFrom, along, along_from}
 
 -- ---- the application of a caller
 
@@ -140,8 +140,8 @@ module _ (c : Config) (s : State) (past : List Entry) (e : Entry) (config : IsCo
       h.rings r n has (omega (arith, some, ap (λ x. times n (out_numbers x)) (ring_at-after_other c s e.who e.call r has legal.known off))))
       (cases_Bool (is_on r e.call))
 
-keeps_homed : (c : Config) (frames : List Frame) → IsConfig c → Keeps c frames (IsHomed c)
-keeps_homed c frames config s past e sound legal reply h =
+keeps_homed : (c : Config) (start : State) → IsConfig c → KeepsFrom c start (IsHomed c)
+keeps_homed c start config s past e sound legal reply h =
     record {
       callers = λ who n some. callers_homed c s past e config legal reply h who n some;
       rings = λ r n has some. rings_homed c s past e config legal reply h r n has (omega (arith, sound.rings, place_below c r has)) some;
@@ -163,7 +163,7 @@ in_pool pool d n some =
     let next : n < (d + 1) * pool = omega (arith, high, suc-mul d pool) in
     div-eq_of_lt-le pool low next
 
-opening_homed : (c : Config) (frames : List Frame) → IsOpened c frames → IsHomed c (opening c frames) []
+pub opening_homed : (c : Config) (frames : List Frame) → IsOpened c frames → IsHomed c (opening c frames) []
 opening_homed c frames opened =
     record {
       callers = λ who n some. absurd (omega (arith, some));
@@ -181,4 +181,12 @@ opening_homed c frames opened =
 -- ---- a history
 
 pub frames_homed : (c : Config) (frames : List Frame) (h : List Entry) → IsHistory c frames h → IsHomed c (state_after c frames h) h
-frames_homed c frames h history = along (IsHomed c) c frames h history (keeps_homed c frames history.opened.config) (opening_homed c frames history.opened)
+frames_homed c frames h history = along (IsHomed c) c frames h history (keeps_homed c (opening c frames) history.opened.config) (opening_homed c frames history.opened)
+
+pub homed_from : (c : Config) (start : State) (h : List Entry) → IsHistoryFrom c start h → IsHomed c (after_all c start h) h
+homed_from c start h history =
+    let first : IsHomed c start [] = record {
+      callers = λ who n some. absurd (omega (arith, some));
+      rings = λ r n has some. (history.begins.ring r has).home n some;
+    } in
+    along_from (IsHomed c) c start h history (keeps_homed c start history.begins.config) first

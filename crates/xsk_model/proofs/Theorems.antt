@@ -1,5 +1,5 @@
 -- The laws of the object, proved.
-use Rattle.std.proofs.Common.{◌+◌, length-append, ◌≡◌, ℕ, List, [], ◌∷◌, ◌++◌, length, take, drop, map, flat_map, refl, sym, ap, subst, ◌∙◌, arith, get_or-set_other}
+use Rattle.std.proofs.Common.{length-append, ◌≡◌, ℕ, List, [], ◌∷◌, ◌++◌, length, take, drop, map, refl, sym, ap, subst, ◌∙◌, arith, get_or-set_other}
 use Rattle.std.proofs.lemmas.List.{drop_at}
 use Rattle.xsk_umem.specs.Frame.{Frame}
 use Rattle.xsk_umem.specs.declared.batch.Item.{Item}
@@ -14,20 +14,18 @@ use Rattle.xsk_model.specs.History.{IsHistory, state_after}
 use Rattle.xsk_model.specs.Laws.{FewInRings, WithinRing, CountsAgree, OneHolder, FramesByOwn, HadAndDistinct, InOrder, PeekInOrder, PartsByOwn, ItemsByOwn, WithinSize, LawfulItems, FittingReplies, FittingGifts, OwnEntries, OneCompletion, SentInOrder, MarkNumbers, OwnPlaces, OwnMarkPlaces, TwoOwners, LeavesOthers, LeavesFolds}
 use Rattle.xsk_model.specs.declared.call.Ring.{Ring}
 use Rattle.xsk_model.specs.declared.call.Call.TheVariants.{Peek}
-use Rattle.xsk_model.proofs.Counting.{times-append, length-by_times, times-range_past, times-range_within}
 use Rattle.xsk_model.proofs.Places.{place_below, place_injective}
 use Rattle.xsk_model.proofs.MarkPlaces.{mark_place_below, mark_place_injective}
 use Rattle.xsk_model.proofs.Folds.{own-push_other, part_of_own-push_other}
 use Rattle.xsk_model.proofs.RingEntries.{on_ring-push_other}
 use Rattle.xsk_model.proofs.Moves.{ring_at-after_other, known_on}
 use Rattle.xsk_model.proofs.Histories.{history_first, history_sound}
-use Rattle.xsk_model.proofs.Replies.{times-row, times-had, history_entry, entry_fits, gift_fits}
+use Rattle.xsk_model.proofs.Apart.{one_each, few_out}
+use Rattle.xsk_model.proofs.Replies.{times-had, history_entry, entry_fits, gift_fits}
 use Rattle.xsk_model.proofs.Distinct.{had_and_distinct, times-had_and_distinct}
 use Rattle.xsk_model.proofs.Roles.{two_owners}
 use Rattle.xsk_model.proofs.OwnRuns.{history_own}
 use Rattle.xsk_model.proofs.Counts.{given-submitted, released-held, within_ring}
-use Rattle.xsk_model.specs.Numbers.{times}
-use Rattle.xsk_model.specs.Holders.{holders, out_numbers}
 use Rattle.xsk_model.specs.Rings.{producer, consumer}
 use Rattle.xsk_model.proofs.Sendings.{sent_is, peeked_is}
 use Rattle.xsk_model.proofs.Completions.{one_completion}
@@ -35,11 +33,7 @@ use Rattle.xsk_model.specs.Packets.{packets, whole_packets, bytes_of}
 
 pub one_holder : OneHolder
 one_holder c frames past later history =
-    let sound = history_sound c frames past (history_first c frames past later history) in
-    record {
-      one = λ n h. sound.holders n ∙ times-range_within n 0 c.geometry.frames (omega arith) (omega arith);
-      none = λ n h. sound.holders n ∙ times-range_past n 0 c.geometry.frames (omega arith);
-    }
+    one_each c (opening c frames) (state_after c frames past) past (history_sound c frames past (history_first c frames past later history))
 
 pub frames_by_own : FramesByOwn
 frames_by_own c frames h who history = (history_sound c frames h history).had who
@@ -131,13 +125,7 @@ sent_in_order c frames h d socket history =
     (peeked_is c d socket (own d h) (history_own c frames h d history))
 
 pub few_in_rings : FewInRings
-few_in_rings c frames h history =
-    let sound = history_sound c frames h history in
-    let all : (n : ℕ) → times n (holders (state_after c frames h)) ≡ times n (flat_map (λ (had : List ℕ). had) (state_after c frames h).had) + times n (flat_map out_numbers (state_after c frames h).rings) =
-    λ n. times-append n (flat_map (λ (had : List ℕ). had) (state_after c frames h).had) (flat_map out_numbers (state_after c frames h).rings) in
-    length-by_times c.geometry.frames (flat_map out_numbers (state_after c frames h).rings)
-    (λ n. omega (arith, all n, sound.holders n, times-row n c.geometry.frames))
-    (λ n past. omega (arith, all n, sound.holders n, times-range_past n 0 c.geometry.frames (omega arith)))
+few_in_rings c frames h history = few_out c (opening c frames) (state_after c frames h) h (history_sound c frames h history)
 
 pub legal_within_ring : WithinRing
 legal_within_ring c frames h who call r history legal on =

@@ -11,6 +11,7 @@ use Rattle.xsk_model.specs.Entry.{Told, Entry, own}
 use Rattle.xsk_model.specs.Own.{had_of}
 use Rattle.xsk_model.specs.Legal.{IsLegal, IsItemOn}
 use Rattle.xsk_model.specs.Opening.{IsOpened, opening}
+use Rattle.xsk_model.specs.Starts.{IsStart}
 use Rattle.xsk_model.specs.declared.call.Ring.{Ring}
 use Rattle.xsk_model.specs.declared.call.Call.{Call}
 use Rattle.xsk_model.specs.declared.call.Call.TheVariants.{Reserve, Submit, Peek, Release, Swap, Look}
@@ -35,6 +36,11 @@ pub record IsHistory (c : Config) (frames : List Frame) (h : List Entry) : Type 
 -- the state that a history leaves
 abbrev pub state_after : Config → List Frame → List Entry → State
 state_after c frames h = after_all c (opening c frames) h
+
+-- a history of the configuration from any start; it leaves what `after_all` says
+pub record IsHistoryFrom (c : Config) (start : State) (h : List Entry) : Type 0 where
+  pub begins : IsStart c start
+  pub legal : GoesOn c start [] h
 
 -- A reply that the object may give to a caller's call: in some history, with some bodies handed in, the caller's own
 -- entries are those that it made so far and then this call with this reply.

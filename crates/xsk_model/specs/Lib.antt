@@ -2,7 +2,8 @@
 -- Config, Limits: the configuration of a set of sockets over one UMEM. Rings, Marks: who moves entries through each ring, who may swap each mark.
 -- Entry, Object: calls, the reply and the state that each leaves. Own: what a caller's own calls and replies leave. Legal, Swaps, Ends: which call
 --   it may make next. Opening, History: legal histories from the start on. Holders, Homes: who has a frame, and where it is at home.
--- Descriptor, Packets, Steering, Sent: packets in frames, where they go, and what a driver sent. Laws: what holds of all histories.
+--   Starts: other states to begin from.
+-- Descriptor, Packets, Steering, Sent: packets in frames, where they go, and what a driver sent. Laws, StartLaws: what holds of all histories.
 -- For code and proofs: Asks, Bases, Expected, MarkKinds, Numbers, OtherWords, Parts, Sizes, Stored.
 pub mod Asks
 pub mod Bases
@@ -26,6 +27,8 @@ pub mod Parts
 pub mod Rings
 pub mod Sent
 pub mod Sizes
+pub mod StartLaws
+pub mod Starts
 pub mod Steering
 pub mod Stored
 pub mod Swaps

@@ -1,4 +1,5 @@
-//! The configuration: the UMEM, ports, queues, sockets, pairs and cells.
+//! The configuration: the UMEM, ports, queues, sockets, pairs and cells. Each configuration is one (`specs/Config`, the
+//! invariant): it is made by `of_parts`, and changed by `set_cell` and `set_closing` alone.
 ghost use Rattle.std.specs.Prelude.{◌≡◌, ◌<◌, ◌≤◌, ◌↔◌, IfOk, IsTrue, length, map, slice_get, None, Some};
 ghost use Rattle.std.specs.List.{flat_map};
 ghost use Rattle.std.specs.Vec.{vec_items};

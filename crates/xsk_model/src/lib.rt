@@ -10,6 +10,7 @@ pub mod marks;
 mod opening;
 mod parts;
 pub mod placement;
+pub mod start_laws;
 pub mod steering;
 
 pub use ask::{Answer, Ask};

@@ -1,4 +1,6 @@
-//! The kinds of marks, what is known of each, and a mark by its kind and its numbers.
+//! The kinds of marks, what is known of each, and a mark by its kind and its numbers. In code this is the one table of
+//! marks: all else takes a mark's kind, number, range and word, and what it belongs to, from here. A new kind is a row
+//! here and one in `specs/MarkKinds`.
 ghost use Rattle.std.specs.Prelude.{◌≡◌, ◌<◌, ◌≤◌, length};
 ghost use Rattle.xsk_model.specs.MarkKinds.{columns_of, index_of, kind_at, kind_of, mark_of, number_of, row_of, word_of};
 

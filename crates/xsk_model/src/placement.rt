@@ -1,4 +1,5 @@
-//! The places of rings and marks in lists of all, counted from the first of each kind.
+//! The places of rings and marks in lists of all, counted from the first of each kind. Every engine takes places from
+//! here, and the contracts tie them to `specs/Rings`, `specs/Marks` and `specs/Bases`.
 ghost use Rattle.std.specs.Prelude.{◌≡◌, ◌+◌, ◌<◌, ◌≤◌, ◌↔◌, ◌^◌, IsTrue};
 ghost use Rattle.std.specs.List.{slice_index_or};
 ghost use Rattle.xsk_model.specs.Config.{Config as Setting, IsConfig, HasRing};

@@ -1,4 +1,6 @@
-//! Where a packet goes: its queue, class and cell, the most bytes that it may have, and the numbers of those who move it.
+//! Where a packet goes: its queue, class and cell, the most bytes that it may have, and the numbers of those who move
+//! it. Machines, engines and what splits inputs take these numbers from here; contracts and laws have them by
+//! `specs/Steering`.
 ghost use Rattle.std.specs.Prelude.{◌≡◌, ◌+◌, ◌*◌, ◌^◌, ◌<◌, ◌≤◌, length, sum};
 ghost use Rattle.xsk_umem.specs.Geometry.{payload_of};
 ghost use Rattle.xsk_model.specs.Steering.{packet_queue as queue_of_packet, packet_class as class_of_packet, packet_cell as cell_of_packet, packet_limit as limit_of_packet, paired_port as port_paired, driver_on as driver_of_queue, socket_on as socket_of_class, port_on as port_of_side, queue_on as queue_of_app};

@@ -1,3 +1,5 @@
+-- Captures (pcap-savefile(5)). To read in this order:
+-- Numbers, Limits, Capture: what a capture is. Written: how one is written. Laws. For code: Steps, Kept, Laid.
 pub mod Numbers
 pub mod Limits
 pub mod Capture

@@ -1,4 +1,6 @@
-//! The object on one thread, with a standing for each caller that tells which of its calls are legal.
+//! The object on one thread, with a standing for each caller that tells which of its calls are legal. A call is made
+//! where the caller's standing allows it, and noted there, so the log is one legal history (`specs/Checked`, the
+//! invariant).
 use crate::noting::{new_standings, serve_noted};
 use crate::plain::{OpenRefused, Plain};
 use std::alloc::Global;
@@ -43,7 +45,7 @@ impl Checked {
     ghost use Rattle.xsk_plain.specs.Engine.{Shows, frames_out};
     ghost use Rattle.xsk_legal.specs.Why.{Fails};
     ghost use Rattle.xsk_plain.specs.Histories.{IsRun, IsStanding};
-    ghost use Rattle.xsk_log.specs.Left.{left_of};
+    ghost use Rattle.xsk_log.specs.Left.{left_of, pairs_of};
     ghost use Rattle.xsk_log.specs.Line.{IsLineAt};
     ghost use Rattle.xsk_log.specs.Log.{calls_of, entries_of};
     ghost use Rattle.xsk_plain.specs.Rooms.{payload_bytes};
@@ -87,7 +89,7 @@ impl Checked {
 
     /// Goes over all calls so far with their replies, and writes the journal's line of each.
     pub fn lines(&self) -> Lines<'_>
-        ensures pairs { result.pairs ≡ length self.now.config.pairs }
+        ensures pairs { pairs_of result ≡ length self.now.config.pairs }
         ensures all { left_of result ≡ self.now.log }
         ensures history { IsRun self.now }
     {

@@ -1,4 +1,5 @@
-//! The rings and marks of a configuration, and single calls on them.
+//! The rings and marks of a configuration, and single calls on them. All changes of rings and marks go by this file. A
+//! call changes the one that it names (`specs/Object`).
 ghost use Rattle.std.specs.Prelude.{◌≡◌, vec_len};
 ghost use Rattle.xsk_model.specs.Bases.{ring_bases, mark_bases};
 ghost use Rattle.xsk_model.specs.Marks.{mark_places_of};

@@ -1,4 +1,5 @@
-//! The object on one thread, as other crates use it.
+//! The object on one thread, as other crates use it. A call that can be made at all (`CanPerform`) has the object's
+//! reply and leaves the object's state (`specs/Steps`); whether it is legal is its caller's to know.
 ghost use Rattle.std.specs.Prelude.{◌≡◌, ◌+◌, ◌*◌, ◌<◌, ◌≤◌, [], ◌∷◌, ◌++◌, ◌↔◌, length, slice_get, Some, OnOk, IfOk, IfErr, IsTrue};
 ghost use Rattle.std.specs.Option.{option_map};
 ghost use Rattle.xsk_umem.specs.declared.batch.Item.{Item as AnItem};
@@ -12,7 +13,7 @@ ghost use Rattle.xsk_model.specs.Opening.{AreFrames, opening};
 ghost use Rattle.xsk_model.specs.Stored.{stored_entry};
 ghost use Rattle.xsk_plain.specs.Counts.{counts_of, number_of};
 ghost use Rattle.xsk_plain.specs.Engine.{Shows, CanPerform, frames_out, part_in};
-ghost use Rattle.xsk_log.specs.Left.{left_of};
+ghost use Rattle.xsk_log.specs.Left.{left_of, pairs_of};
 ghost use Rattle.xsk_log.specs.Line.{IsLineAt};
 ghost use Rattle.xsk_log.specs.Log.{calls_of, entries_of};
 ghost use Rattle.xsk_plain.specs.Rooms.{Enters, payload_bytes, items_bytes};
@@ -114,7 +115,7 @@ impl Plain {
 
     /// Goes over all calls so far with their replies, and writes the journal's line of each.
     pub fn lines(&self) -> Lines<'_>
-        ensures pairs { result.pairs ≡ length self.now.config.pairs }
+        ensures pairs { pairs_of result ≡ length self.now.config.pairs }
         ensures all { left_of result ≡ self.now.log }
     {
         self.log.lines(self.object.config.pairs().len() as u32)

@@ -1,4 +1,5 @@
-//! One ring with its entries and what each side has reserved and peeked.
+//! One ring with its entries and what each side has reserved and peeked. Items that are out, held places and reserved
+//! ones always fit the size (`fits`), and the queue never grows.
 ghost use Rattle.std.specs.Prelude.{◌≡◌, ◌+◌, ◌≤◌, length};
 ghost use Rattle.std.specs.VecDeque.{deque_len, deque_capacity};
 

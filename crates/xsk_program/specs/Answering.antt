@@ -26,7 +26,7 @@ pub record IsAnswered (words : List Text) (old new : Moment) (ended : Ended) : T
 -- `check` as it answers, and every other command as those
 abbrev pub IsAnsweredSo : List Text → Moment → Moment → Answered → Type 0
 IsAnsweredSo words old new (Ran ended) = (is_check words ≡ false) × IsAnswered words old new ended
-IsAnsweredSo words old new (Checked checkup) = (is_check words ≡ true) × IsCheckAnswer (file_in words) old new checkup.end
+IsAnsweredSo words old new (Checked checkup) = (is_check words ≡ true) × IsCheckAnswer (file_in words) old new checkup.end checkup.named
 
 -- where there are no words: the status says why, and is told in its line
 pub record IsToldBy (why : Status) (old new : Moment) (ended : Ended) : Type 0 where

@@ -9,7 +9,7 @@ use Rattle.xsk_recording.specs.Line.{line_at}
 use Rattle.xsk_recording.specs.Header.{Header, header_after}
 use Rattle.xsk_recording.specs.Text.{Read, nothing_read, line_after, lines_after, body_after, call_after, with_told, with_aside, most_bytes, most_lines, ends_line}
 use Rattle.xsk_recording.specs.Feeding.{Reader, has_no_feed, joined, StandsFor, is_calls}
-use Rattle.xsk_recording.specs.Verdict.{IsSound, Begins, IsVerdict}
+use Rattle.xsk_recording.specs.Verdict.{IsAtEnd, IsSound, Begins, IsVerdict}
 use Rattle.xsk_recording.specs.declared.head.Next.{Next}
 use Rattle.xsk_recording.specs.declared.head.Next.TheVariants.{Title, Umem, Pairs, Sockets, Mark, Calls}
 use Rattle.xsk_recording.specs.declared.line.Timed.{Timed}
@@ -176,4 +176,10 @@ pub end-called : (reader : Reader) (text : List ℕ) (r : Read) (calls : ℕ) �
 end-called reader text r calls stands empty begun are sound = elim (cases_Bool (calls == 0)) [
   | inl none ↦ rw none (end-no-calls reader text r stands empty begun (sym are ∙ eqb-true calls 0 none) sound)
   | inr some ↦ rw some (end-possible reader text r calls stands empty begun are (omega (arith, eqb-false calls 0 some)) sound)
+]
+
+pub at-end : (calls : ℕ) → IsAtEnd (if calls == 0 then a_verdict.NoCalls else a_verdict.Possible calls)
+at-end calls = elim (cases_Bool (calls == 0)) [
+  | inl none ↦ rw none tt
+  | inr some ↦ rw some tt
 ]

@@ -144,13 +144,13 @@ read-next old new text r piece used rest an_event.Passed stands cut line told (i
   told = goes-then r (old.begun ++ used) r.calls _ _
       (λ n is rest. (stands-line old new text r used n stands (line-front old.begun used stands.begun line) is rest.0 empty, rest.1, rest.2)) told;
 }
-read-next old new text r piece used rest (an_event.Setting s) stands cut line told (inl fault) = absurd fault
-read-next old new text r piece used rest (an_event.Setting s) stands cut line told (inr empty) = record {
+read-next old new text r piece used rest (an_event.Setting s metadata) stands cut line told (inl fault) = absurd fault
+read-next old new text r piece used rest (an_event.Setting s metadata) stands cut line told (inr empty) = record {
   used = used;
   piece_is = cut;
   line = line-front old.begun used stands.begun line;
   told = goes-then r (old.begun ++ used) r.calls _ _
-      (λ n is rest. (stands-line old new text r used n stands (line-front old.begun used stands.begun line) is rest.0 empty, rest.1, rest.2, rest.3)) told;
+      (λ n is rest. (stands-line old new text r used n stands (line-front old.begun used stands.begun line) is rest.0 empty, rest.1, rest.2, rest.3, rest.4)) told;
 }
 read-next old new text r piece used rest (an_event.NoSetting error) stands cut line told (inl fault) = absurd fault
 read-next old new text r piece used rest (an_event.NoSetting error) stands cut line told (inr empty) = record {
@@ -234,7 +234,7 @@ kept-next old new text r piece stands feed kept = rw kept.0 (record {
   lines = stands.lines;
   begun = no-feed-both old.begun piece stands.begun feed;
   read = stands.read;
-  shows = record { next = stands.shows.next; setting = stands.shows.setting; time = stands.shows.time; lines = stands.shows.lines };
+  shows = record { next = stands.shows.next; header = stands.shows.header; time = stands.shows.time; lines = stands.shows.lines };
 })
 
 pub long-next : (old : Reader) (text : List ℕ) (r : Read) (piece later : List ℕ) → StandsFor old text r

@@ -2,10 +2,9 @@
 use Rattle.std.proofs.Common.{◌≡◌, ℕ, ◌+◌, ◌≤◌, Option, Some, None, List, [], ◌∷◌, ◌++◌, length, refl, sym, ap, subst, ◌∙◌, arith, false, inl, inr}
 use Rattle.std.specs.Prelude.{IfSome, ◌&&◌, nat_le, nat_lt, unwrap_or, codes}
 use Rattle.std.proofs.lemmas.Bool.{cases_Bool, ltb-true, ltb-false}
-use Rattle.xsk_side.specs.Setting.{Setting}
 use Rattle.xsk_lines.specs.Reading.{◌>>=◌, choose, word_at}
 use Rattle.xsk_recording.specs.Line.{line_at, is_ended}
-use Rattle.xsk_recording.specs.Header.{Header, header_after, towards, umem_at, pair_at, socket_at, rules_at, with_pair, with_socket, umem_line, pair_line, socket_line, kernel_line}
+use Rattle.xsk_recording.specs.Header.{Header, header_after, towards, umem_at, pair_at, socket_at, kernel_at, with_setting, with_pair, with_socket, with_kernel, umem_line, pair_line, socket_line, kernel_line}
 use Rattle.xsk_recording.specs.Text.{Read, line_after, body_after, call_after, with_told, with_aside, most_bytes, most_lines, ends_line}
 use Rattle.xsk_recording.specs.Feeding.{is_calls}
 use Rattle.xsk_recording.specs.declared.head.Next.{Next}
@@ -27,31 +26,34 @@ some-value {A} x y e = ap (λ (r : Option A). unwrap_or r x) e
 abbrev IsEarly : Header → Type 0
 IsEarly h = is_calls h.next ≡ false
 
-umem-early : (s : Setting) (xs : List ℕ) → IfSome (umem_line s xs) IsEarly
-umem-early s xs = if-bound IsEarly (umem_at xs) (λ g. Some (towards Pairs (record s { geometry = g }))) (λ g. refl)
+umem-early : (h : Header) (xs : List ℕ) → IfSome (umem_line h xs) IsEarly
+umem-early h xs = if-bound IsEarly (umem_at xs) (λ g. Some (with_setting Pairs h (record h.setting { geometry = g }))) (λ g. refl)
 
-pair-early : (s : Setting) (xs : List ℕ) → IfSome (pair_line s xs) IsEarly
-pair-early s xs =
-    if-bound IsEarly (pair_at xs) (with_pair s)
-    (λ pair. if-tested IsEarly (nat_lt (length s.pairs) 64) (Some (towards Pairs (record s { pairs = s.pairs ++ pair ∷ [] }))) None refl tt)
+pair-early : (h : Header) (xs : List ℕ) → IfSome (pair_line h xs) IsEarly
+pair-early h xs =
+    if-bound IsEarly (pair_at xs) (with_pair h)
+    (λ pair.
+    if-tested IsEarly (nat_lt (length h.setting.pairs) 64) (Some (with_setting Pairs h (record h.setting { pairs = h.setting.pairs ++ pair ∷ [] }))) None refl tt)
 
-socket-early : (s : Setting) (xs : List ℕ) → IfSome (socket_line s xs) IsEarly
-socket-early s xs =
-    if-bound IsEarly (socket_at xs) (with_socket s)
-    (λ socket. if-tested IsEarly (nat_lt (length s.sockets) 64) (Some (towards Sockets (record s { sockets = s.sockets ++ socket ∷ [] }))) None refl tt)
+socket-early : (h : Header) (xs : List ℕ) → IfSome (socket_line h xs) IsEarly
+socket-early h xs =
+    if-bound IsEarly (socket_at xs) (with_socket h)
+    (λ socket.
+    if-tested IsEarly (nat_lt (length h.setting.sockets) 64)
+    (Some (with_setting Sockets h (record h.setting { sockets = h.setting.sockets ++ socket ∷ [] }))) None refl tt)
 
-kernel-early : (s : Setting) (xs : List ℕ) → IfSome (kernel_line s xs) IsEarly
-kernel-early s xs = if-bound IsEarly (rules_at xs) (λ rules. Some (towards Mark (record s { rules = rules }))) (λ rules. refl)
+kernel-early : (h : Header) (xs : List ℕ) → IfSome (kernel_line h xs) IsEarly
+kernel-early h xs = if-bound IsEarly (kernel_at xs) (λ told. Some (with_kernel h told)) (λ told. refl)
 
 -- ---- what a line leaves, by the line that came next
 
--- up to the line of the kernel another follows, and no calls are told; behind it the setting stays
+-- up to the line of the kernel another follows, and no calls are told; behind it what the header has told stays
 abbrev pub Leads : Next → Read → Read → Type 0
 Leads Title r n = (is_calls n.header.next ≡ false) × (n.calls ≡ r.calls)
 Leads Umem r n = (is_calls n.header.next ≡ false) × (n.calls ≡ r.calls)
 Leads Pairs r n = (is_calls n.header.next ≡ false) × (n.calls ≡ r.calls)
 Leads Sockets r n = (is_calls n.header.next ≡ false) × (n.calls ≡ r.calls)
-Leads Mark r n = (n.header ≡ towards Calls r.header.setting) × (n.calls ≡ r.calls)
+Leads Mark r n = (n.header ≡ towards Calls r.header) × (n.calls ≡ r.calls)
 Leads Calls r n = n.header ≡ r.header
 
 pub record IsStep (r n : Read) : Type 0 where
@@ -88,29 +90,29 @@ call-step r n (Some t) small after = elim (cases_Bool (nat_lt t.time r.time)) [
       )
 ]
 
-abbrev IsMarked : Setting → Header → Type 0
-IsMarked s h = h ≡ towards Calls s
+abbrev IsMarked : Header → Header → Type 0
+IsMarked before h = h ≡ towards Calls before
 
 body-step : (next : Next) (r n : Read) (xs : List ℕ) → r.header.next ≡ next → body_after next r xs ≡ Some n → HasStep next r n
 body-step Title r n xs is after =
     header-step Title r n IsEarly (header_after r.header xs) (λ header early. (early, refl))
-    (rw is (if-tested IsEarly (is_ended (codes "xsk recording 1") xs) (Some (towards Umem r.header.setting)) None refl tt)) after
+    (rw is (if-tested IsEarly (is_ended (codes "xsk recording 1") xs) (Some (towards Umem r.header)) None refl tt)) after
 body-step Umem r n xs is after =
     header-step Umem r n IsEarly (header_after r.header xs) (λ header early. (early, refl))
-    (rw is (if-bound IsEarly (word_at (codes "umem ") xs) (umem_line r.header.setting) (umem-early r.header.setting))) after
+    (rw is (if-bound IsEarly (word_at (codes "umem ") xs) (umem_line r.header) (umem-early r.header))) after
 body-step Pairs r n xs is after =
     header-step Pairs r n IsEarly (header_after r.header xs) (λ header early. (early, refl))
     (rw is (
-    if-chosen IsEarly (word_at (codes "pair ") xs) (pair_line r.header.setting) (choose (word_at (codes "socket ") xs) (socket_line r.header.setting) None) (pair-early r.header.setting)
-    (if-chosen IsEarly (word_at (codes "socket ") xs) (socket_line r.header.setting) None (socket-early r.header.setting) tt))) after
+    if-chosen IsEarly (word_at (codes "pair ") xs) (pair_line r.header) (choose (word_at (codes "socket ") xs) (socket_line r.header) None) (pair-early r.header)
+    (if-chosen IsEarly (word_at (codes "socket ") xs) (socket_line r.header) None (socket-early r.header) tt))) after
 body-step Sockets r n xs is after =
     header-step Sockets r n IsEarly (header_after r.header xs) (λ header early. (early, refl))
     (rw is (
-    if-chosen IsEarly (word_at (codes "socket ") xs) (socket_line r.header.setting) (choose (word_at (codes "kernel") xs) (kernel_line r.header.setting) None) (socket-early r.header.setting)
-    (if-chosen IsEarly (word_at (codes "kernel") xs) (kernel_line r.header.setting) None (kernel-early r.header.setting) tt))) after
+    if-chosen IsEarly (word_at (codes "socket ") xs) (socket_line r.header) (choose (word_at (codes "kernel") xs) (kernel_line r.header) None) (socket-early r.header)
+    (if-chosen IsEarly (word_at (codes "kernel") xs) (kernel_line r.header) None (kernel-early r.header) tt))) after
 body-step Mark r n xs is after =
-    header-step Mark r n (IsMarked r.header.setting) (header_after r.header xs) (λ header marked. (marked, refl))
-    (rw is (if-tested (IsMarked r.header.setting) (is_ended (codes "calls") xs) (Some (towards Calls r.header.setting)) None refl tt)) after
+    header-step Mark r n (IsMarked r.header) (header_after r.header xs) (λ header marked. (marked, refl))
+    (rw is (if-tested (IsMarked r.header) (is_ended (codes "calls") xs) (Some (towards Calls r.header)) None refl tt)) after
 body-step Calls r n xs is after = call-step r n (line_at xs) (line-small xs) after
 
 pub line-step : (r n : Read) (xs : List ℕ) → line_after r xs ≡ Some n → IsStep r n

@@ -1,14 +1,13 @@
 -- One line more.
 use Rattle.std.proofs.Common.{◌≡◌, ℕ, ◌+◌, ◌<◌, ◌≤◌, ◌⊎◌, Option, Some, None, List, length, refl, sym, ap, subst, ◌∙◌, true, false, inl, inr}
 use Rattle.std.specs.Prelude.{nat_lt, Bool, nat_le, codes, unwrap_or}
-use Rattle.xsk_side.specs.Setting.{Setting}
 use Rattle.std.proofs.lemmas.Bool.{cases_Bool, le-leb, lt-leb, lt-ltb, le-ltb}
 use Rattle.xsk_lines.specs.Reading.{◌>>=◌}
 use Rattle.xsk_recording.specs.Line.{line_at, ended, is_ended}
 use Rattle.xsk_recording.specs.Header.{Header, header_line, header_after, towards}
 use Rattle.xsk_recording.specs.HeaderFields.{head_view, is_mark, IsNoSetting}
 use Rattle.xsk_recording.specs.Text.{Read, line_after, body_after, header_read, call_after, with_told, with_aside, most_bytes, most_lines, ends_line}
-use Rattle.xsk_recording.specs.Feeding.{Reader, Shows, KeepsSetting, Tells, IsHanded, is_calls}
+use Rattle.xsk_recording.specs.Feeding.{Reader, Shows, Keeps, Tells, IsHanded, is_calls}
 use Rattle.xsk_recording.specs.declared.head.Next.{Next}
 use Rattle.xsk_recording.specs.declared.head.Next.TheVariants.{Title, Umem, Pairs, Sockets, Mark, Calls}
 use Rattle.xsk_recording.specs.declared.line.Timed.{Timed}
@@ -101,17 +100,17 @@ headed-same r xs true header is = record {
   headed = inl refl;
 }
 
-mark-ends : (r : Read) (xs : List ℕ) (b : Bool) (header : Header) (s : Setting) → r.header.next ≡ Mark → is_ended (codes "calls") xs ≡ true
-    → head_view b header ≡ Some (towards Calls s) → Headed r xs b header
-mark-ends r xs false header s mark ends told = cc told
-mark-ends r xs true header s mark ends told = record {
-  read = record r { header = towards Calls r.header.setting; lines = r.lines + 1 };
+mark-ends : (old : Header) (r : Read) (xs : List ℕ) (b : Bool) (header : Header) → r.header.next ≡ Mark → is_ended (codes "calls") xs ≡ true
+    → head_view b header ≡ Some (towards Calls old) → Headed r xs b header
+mark-ends old r xs false header mark ends told = cc told
+mark-ends old r xs true header mark ends told = record {
+  read = record r { header = towards Calls r.header; lines = r.lines + 1 };
   is = rw (mark, ends) refl;
   calls = refl;
   asides = refl;
   time = refl;
   lines = refl;
-  headed = inr (refl, ap (λ (h : Header). h.next) (some-value header (towards Calls s) told));
+  headed = inr (refl, ap (λ (h : Header). h.next) (some-value header (towards Calls old) told));
 }
 
 mark-other : (r : Read) (xs : List ℕ) (b : Bool) (header : Header) → r.header.next ≡ Mark → is_ended (codes "calls") xs ≡ false
@@ -119,57 +118,53 @@ mark-other : (r : Read) (xs : List ℕ) (b : Bool) (header : Header) → r.heade
 mark-other r xs false header mark other told = rw (mark, other) refl
 mark-other r xs true header mark other told = cc told
 
--- behind the line of the kernel the setting is no more kept, and plays no part
-headed-mark : (r : Read) (xs : List ℕ) (b : Bool) (header : Header) (s : Setting) → r.header.next ≡ Mark
-    → head_view b header ≡ ended (codes "calls") (towards Calls s) xs → Headed r xs b header
-headed-mark r xs b header s mark told = elim (cases_Bool (is_ended (codes "calls") xs)) [
-  | inl ends ↦ mark-ends r xs b header s mark ends (rw ends at told)
+-- behind the line of the kernel what was told is no more kept, and plays no part
+headed-mark : (old : Header) (r : Read) (xs : List ℕ) (b : Bool) (header : Header) → r.header.next ≡ Mark
+    → head_view b header ≡ ended (codes "calls") (towards Calls old) xs → Headed r xs b header
+headed-mark old r xs b header mark told = elim (cases_Bool (is_ended (codes "calls") xs)) [
+  | inl ends ↦ mark-ends old r xs b header mark ends (rw ends at told)
   | inr other ↦ mark-other r xs b header mark other (rw other at told)
 ]
 
-header-same : (a b : Header) → a.next ≡ b.next → a.setting ≡ b.setting → a ≡ b
-header-same a b next setting = ap (λ (n : Next). towards n a.setting) next ∙ ap (λ (s : Setting). towards b.next s) setting
-
-headed-as : (old : Header) (r : Read) (xs : List ℕ) (b : Bool) (header : Header) → old.next ≡ r.header.next → old.setting ≡ r.header.setting
-    → head_view b header ≡ header_after old xs → Headed r xs b header
-headed-as old r xs b header next setting told =
-    headed-same r xs b header (told ∙ ap (λ (h : Header). header_after h xs) (header-same old r.header next setting))
+headed-as : (old : Header) (r : Read) (xs : List ℕ) (b : Bool) (header : Header) → old ≡ r.header → head_view b header ≡ header_after old xs
+    → Headed r xs b header
+headed-as old r xs b header same told = headed-same r xs b header (told ∙ ap (λ (h : Header). header_after h xs) same)
 
 headed-by : (next : Next) (old : Header) (r : Read) (xs : List ℕ) (b : Bool) (header : Header) → r.header.next ≡ next → old.next ≡ r.header.next
-    → KeepsSetting next r.header.setting old.setting → is_calls next ≡ false → head_view b header ≡ header_after old xs → Headed r xs b header
-headed-by Title old r xs b header is same keeps calls told = headed-as old r xs b header same keeps told
-headed-by Umem old r xs b header is same keeps calls told = headed-as old r xs b header same keeps told
-headed-by Pairs old r xs b header is same keeps calls told = headed-as old r xs b header same keeps told
-headed-by Sockets old r xs b header is same keeps calls told = headed-as old r xs b header same keeps told
+    → Keeps next r.header old → is_calls next ≡ false → head_view b header ≡ header_after old xs → Headed r xs b header
+headed-by Title old r xs b header is same keeps calls told = headed-as old r xs b header keeps told
+headed-by Umem old r xs b header is same keeps calls told = headed-as old r xs b header keeps told
+headed-by Pairs old r xs b header is same keeps calls told = headed-as old r xs b header keeps told
+headed-by Sockets old r xs b header is same keeps calls told = headed-as old r xs b header keeps told
 headed-by Mark old r xs b header is same keeps calls told =
-    headed-mark r xs b header old.setting is (subst (λ (n : Next). head_view b header ≡ header_line n old.setting xs) (same ∙ is) told)
+    headed-mark old r xs b header is (subst (λ (n : Next). head_view b header ≡ header_line n old xs) (same ∙ is) told)
 headed-by Calls old r xs b header is same keeps calls told = cc calls
 
 pub headed : (old : Reader) (r : Read) (xs : List ℕ) (b : Bool) (header : Header) → Shows old r → is_calls r.header.next ≡ false
     → head_view b header ≡ header_after old.header xs → Headed r xs b header
-headed old r xs b header shows calls told = headed-by r.header.next old.header r xs b header refl shows.next shows.setting calls told
+headed old r xs b header shows calls told = headed-by r.header.next old.header r xs b header refl shows.next shows.header calls told
 
-pub keeps-self : (next : Next) (s : Setting) → KeepsSetting next s s
-keeps-self Title s = refl
-keeps-self Umem s = refl
-keeps-self Pairs s = refl
-keeps-self Sockets s = refl
-keeps-self Mark s = tt
-keeps-self Calls s = tt
+pub keeps-self : (next : Next) (h : Header) → Keeps next h h
+keeps-self Title h = refl
+keeps-self Umem h = refl
+keeps-self Pairs h = refl
+keeps-self Sockets h = refl
+keeps-self Mark h = tt
+keeps-self Calls h = tt
 
--- a reader shows what was read where it has the header's next line, and the setting as far as that is kept
+-- a reader shows what was read where it has the header's next line, and what the header has told as far as that is kept
 pub shows-headed : (r : Read) (xs : List ℕ) (header : Header) (new : Reader) (h : IsHeaded r xs header) → new.header.next ≡ header.next
-    → KeepsSetting header.next header.setting new.header.setting → new.time ≡ r.time → new.lines ≡ r.lines + 1 → Shows new h.read
+    → Keeps header.next header new.header → new.time ≡ r.time → new.lines ≡ r.lines + 1 → Shows new h.read
 shows-headed r xs header new h next keeps time lines = elim h.headed [
   | inl same ↦ record {
     next = next ∙ ap (λ (a : Header). a.next) (sym same);
-    setting = subst (λ (a : Header). KeepsSetting a.next a.setting new.header.setting) (sym same) keeps;
+    header = subst (λ (a : Header). Keeps a.next a new.header) (sym same) keeps;
     time = time ∙ sym h.time;
     lines = lines ∙ sym h.lines;
   }
   | inr calls ↦ record {
     next = next ∙ calls.1 ∙ sym calls.0;
-    setting = subst (λ (n : Next). KeepsSetting n h.read.header.setting new.header.setting) (sym calls.0) tt;
+    header = subst (λ (n : Next). Keeps n h.read.header new.header) (sym calls.0) tt;
     time = time ∙ sym h.time;
     lines = lines ∙ sym h.lines;
   }
@@ -215,7 +210,7 @@ header-passed old new r xs header has told other same time lines =
       calls_are = h.calls;
       rest = (
         shows-headed r xs header new h (ap (λ (a : Header). a.next) same)
-            (subst (λ (a : Header). KeepsSetting header.next header.setting a.setting) (sym same) (keeps-self header.next header.setting))
+            (subst (Keeps header.next header) (sym same) (keeps-self header.next header))
             (time ∙ has.0.time) (lines ∙ ap (λ n. n + 1) has.0.lines),
         λ mark. cc (sym other ∙ ap is_mark (sym (next-headed r xs header h) ∙ mark)),
         h.asides,
@@ -242,20 +237,20 @@ read-up-to old new r xs header has told mark next time lines =
       h.read,
       header-here old r xs has ∙ h.is,
       h.calls,
-      shows-headed r xs header new h next (subst (λ (n : Next). KeepsSetting n header.setting new.header.setting) (sym is) tt) (time ∙ has.0.time) (lines ∙ ap (λ n. n + 1) has.0.lines),
+      shows-headed r xs header new h next (subst (λ (n : Next). Keeps n header new.header) (sym is) tt) (time ∙ has.0.time) (lines ∙ ap (λ n. n + 1) has.0.lines),
       next-headed r xs header h ∙ is,
       mark-headed r xs header h is,
       h.asides,
     )
 
-handed : (new : Reader) (r : Read) (xs : List ℕ) (header : Header) (event : Event) → ReadUpTo new r xs header → IsHanded header.setting event → Tells r xs event (Shows new)
+handed : (new : Reader) (r : Read) (xs : List ℕ) (header : Header) (event : Event) → ReadUpTo new r xs header → IsHanded header event → Tells r xs event (Shows new)
 handed new r xs header an_event.Begun up is = absurd is
 handed new r xs header an_event.Passed up is = absurd is
-handed new r xs header (an_event.Setting s) up is = record {
+handed new r xs header (an_event.Setting s metadata) up is = record {
   read = up.0;
   is = up.1;
   calls_are = up.2;
-  rest = (up.3, up.4, ap (λ (h : Header). h.setting) up.5 ∙ sym is, up.6);
+  rest = (up.3, up.4, ap (λ (h : Header). h.setting) up.5 ∙ sym is.0, ap (λ (h : Header). h.metadata) up.5 ∙ sym is.1, up.6);
 }
 handed new r xs header (an_event.NoSetting error) up is = record {
   read = up.0;
@@ -268,7 +263,7 @@ handed new r xs header (an_event.Aside wakeup) up is = absurd is
 handed new r xs header an_event.Fault up is = absurd is
 
 pub header-handed : (old new : Reader) (r : Read) (xs : List ℕ) (header : Header) (event : Event) → HasHeader old r xs
-    → head_view true header ≡ header_after old.header xs → is_mark header.next ≡ true → IsHanded header.setting event
+    → head_view true header ≡ header_after old.header xs → is_mark header.next ≡ true → IsHanded header event
     → new.header.next ≡ header.next → new.time ≡ old.time → new.lines ≡ old.lines + 1 → Tells r xs event (Shows new)
 header-handed old new r xs header event has told mark is next time lines =
     handed new r xs header event (read-up-to old new r xs header has told mark next time lines) is
@@ -310,7 +305,7 @@ call-told old new r xs t has some later header time lines = record {
   asides = refl;
   shows = record {
     next = ap (λ (h : Header). h.next) header ∙ has.0.next;
-    setting = subst (λ (h : Header). KeepsSetting r.header.next r.header.setting h.setting) (sym header) has.0.setting;
+    header = subst (Keeps r.header.next r.header) (sym header) has.0.header;
     time = time;
     lines = lines ∙ ap (λ n. n + 1) has.0.lines;
   };

@@ -77,7 +77,7 @@ call-sound r n (Some t) is after sound = elim (cases_Bool (nat_lt t.time r.time)
 mark-sound : (r n : Read) (xs : List ℕ) → r.header.next ≡ Mark → header_read r xs ≡ Some n → IsSound n.header.next n → IsSound Mark r
 mark-sound r n xs is after sound = elim (cases_Bool (is_ended (codes "calls") xs)) [
   | inl ends ↦
-      let m : Read = record r { header = towards Calls r.header.setting; lines = r.lines + 1 } in
+      let m : Read = record r { header = towards Calls r.header; lines = r.lines + 1 } in
       let same : m ≡ n = some-value m n (rw (is, ends) at after) in
       subst (λ (x : Read). IsSound x.header.next x) (sym same) sound
   | inr other ↦ cc (rw (is, other) at after)

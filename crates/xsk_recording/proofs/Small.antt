@@ -1,6 +1,6 @@
 -- The line of a call tells 32 entries at most.
 use Rattle.std.proofs.Common.{ℕ, zero, suc, ◌≤◌, Option, Some, None, List, [], ◌∷◌, drop, length, arith, true, false}
-use Rattle.std.specs.Prelude.{Bool, IfSome, not, if◌then◌else◌, ◌||◌, codes}
+use Rattle.std.specs.Prelude.{Bool, IfSome, not, if◌then◌else◌, codes}
 use Rattle.xsk_umem.specs.declared.batch.XdpDesc.{XdpDesc}
 use Rattle.xsk_model.specs.declared.call.Ring.{Ring}
 use Rattle.xsk_side.specs.declared.call.Call.{Call}

@@ -1,6 +1,5 @@
 -- A recording that is read in pieces: a reader stands for all bytes that it was given, whatever the pieces were.
 use Rattle.std.specs.Prelude.{◌≡◌, ℕ, ◌+◌, ◌<◌, ◌≤◌, Bool, true, false, ◌==◌, if◌then◌else◌, None, Some, List, [], ◌∷◌, ◌++◌, length}
-use Rattle.xsk_side.specs.Setting.{Setting}
 use Rattle.xsk_lines.specs.Lines.{lines_of}
 use Rattle.xsk_recording.specs.Header.{Header}
 use Rattle.xsk_recording.specs.HeaderFields.{IsNoSetting}
@@ -17,18 +16,18 @@ pub record Reader : Type 0 where
   pub lines : ℕ
   pub begun : List ℕ
 
--- the setting is kept up to the line of the kernel, behind which it is handed out
-abbrev pub KeepsSetting : Next → Setting → Setting → Type 0
-KeepsSetting Title s kept = kept ≡ s
-KeepsSetting Umem s kept = kept ≡ s
-KeepsSetting Pairs s kept = kept ≡ s
-KeepsSetting Sockets s kept = kept ≡ s
-KeepsSetting Mark s kept = Unit {0}
-KeepsSetting Calls s kept = Unit {0}
+-- what a header has told is kept up to the line of the kernel, behind which it is handed out
+abbrev pub Keeps : Next → Header → Header → Type 0
+Keeps Title h kept = kept ≡ h
+Keeps Umem h kept = kept ≡ h
+Keeps Pairs h kept = kept ≡ h
+Keeps Sockets h kept = kept ≡ h
+Keeps Mark h kept = Unit {0}
+Keeps Calls h kept = Unit {0}
 
 pub record Shows (reader : Reader) (r : Read) : Type 0 where
   pub next : reader.header.next ≡ r.header.next
-  pub setting : KeepsSetting r.header.next r.header.setting reader.header.setting
+  pub header : Keeps r.header.next r.header reader.header
   pub time : reader.time ≡ r.time
   pub lines : reader.lines ≡ r.lines
 
@@ -81,7 +80,8 @@ pub record Goes (r : Read) (line : List ℕ) (calls : List Numbered) (Then : Rea
 abbrev pub Tells : Read → List ℕ → Event → (Read → Type 0) → Type 0
 Tells r line an_event.Begun Then = ⊥
 Tells r line an_event.Passed Then = Goes r line r.calls (λ n. Then n × (n.header.next ≡ Mark → ⊥) × (n.asides ≡ r.asides))
-Tells r line (an_event.Setting s) Then = Goes r line r.calls (λ n. Then n × (n.header.next ≡ Mark) × (n.header.setting ≡ s) × (n.asides ≡ r.asides))
+Tells r line (an_event.Setting s metadata) Then =
+    Goes r line r.calls (λ n. Then n × (n.header.next ≡ Mark) × (n.header.setting ≡ s) × (n.header.metadata ≡ metadata) × (n.asides ≡ r.asides))
 Tells r line (an_event.NoSetting error) Then = Goes r line r.calls (λ n. Then n × (n.header.next ≡ Mark) × IsNoSetting n.header.setting error)
 Tells r line (an_event.Call call) Then = Goes r line (record { line = r.lines + 1; call = call } ∷ r.calls) (λ n. Then n × (n.asides ≡ r.asides))
 Tells r line (an_event.Aside wakeup) Then =
@@ -108,7 +108,7 @@ pub record IsUsed (old new : Reader) (text : List ℕ) (r : Read) (piece : List 
 abbrev pub IsNext : Reader → Reader → List ℕ → Read → List ℕ → Event → List ℕ → Type 0
 IsNext old new text r piece an_event.Begun rest = (rest ≡ []) × StandsFor new (text ++ piece) r
 IsNext old new text r piece an_event.Passed rest = IsUsed old new text r piece an_event.Passed rest
-IsNext old new text r piece (an_event.Setting s) rest = IsUsed old new text r piece (an_event.Setting s) rest
+IsNext old new text r piece (an_event.Setting s metadata) rest = IsUsed old new text r piece (an_event.Setting s metadata) rest
 IsNext old new text r piece (an_event.NoSetting error) rest = IsUsed old new text r piece (an_event.NoSetting error) rest
 IsNext old new text r piece (an_event.Call call) rest = IsUsed old new text r piece (an_event.Call call) rest
 IsNext old new text r piece (an_event.Aside wakeup) rest = IsUsed old new text r piece (an_event.Aside wakeup) rest
@@ -117,7 +117,7 @@ IsNext old new text r piece an_event.Fault rest = (later : List ℕ) → HasFaul
 abbrev pub IsFault : Event → Type 0
 IsFault an_event.Begun = ⊥
 IsFault an_event.Passed = ⊥
-IsFault (an_event.Setting s) = ⊥
+IsFault (an_event.Setting s metadata) = ⊥
 IsFault (an_event.NoSetting error) = ⊥
 IsFault (an_event.Call call) = ⊥
 IsFault (an_event.Aside wakeup) = ⊥
@@ -128,12 +128,12 @@ abbrev pub IsKept : Reader → Reader → List ℕ → Bool → Type 0
 IsKept old new part true = (new ≡ record old { begun = old.begun ++ part }) × (length old.begun + length part ≤ most_bytes)
 IsKept old new part false = most_bytes < length old.begun + length part
 
--- a header's setting is handed out, or why it is none
-abbrev pub IsHanded : Setting → Event → Type 0
-IsHanded s an_event.Begun = ⊥
-IsHanded s an_event.Passed = ⊥
-IsHanded s (an_event.Setting told) = told ≡ s
-IsHanded s (an_event.NoSetting error) = IsNoSetting s error
-IsHanded s (an_event.Call call) = ⊥
-IsHanded s (an_event.Aside wakeup) = ⊥
-IsHanded s an_event.Fault = ⊥
+-- a header's setting is handed out, and `metadata` beside it; or why it is none
+abbrev pub IsHanded : Header → Event → Type 0
+IsHanded h an_event.Begun = ⊥
+IsHanded h an_event.Passed = ⊥
+IsHanded h (an_event.Setting s metadata) = (s ≡ h.setting) × (metadata ≡ h.metadata)
+IsHanded h (an_event.NoSetting error) = IsNoSetting h.setting error
+IsHanded h (an_event.Call call) = ⊥
+IsHanded h (an_event.Aside wakeup) = ⊥
+IsHanded h an_event.Fault = ⊥

@@ -48,56 +48,67 @@ flagged xs (Some rest) = (true, rest)
 abbrev pub flag_at : List ℕ → List ℕ → Bool × List ℕ
 flag_at word xs = flagged xs (word_at word xs)
 
--- The switches, in this order. `metadata` is for hints alone, and allows and forbids nothing.
-unfoldable pub rules_at : List ℕ → Option Rules
-rules_at xs =
+-- The switches, in this order, and whether the UMEM has room for TX metadata: `metadata` is for hints alone, and allows and forbids nothing.
+unfoldable pub kernel_at : List ℕ → Option (Rules × Bool)
+kernel_at xs =
     let sg = flag_at (codes " sg") xs in
     let own = flag_at (codes " own") sg.1 in
     let at_data = flag_at (codes " data") own.1 in
     let metadata = flag_at (codes " metadata") at_data.1 in
-    closed (record { sg = sg.0; own = own.0; at_data = at_data.0 }) metadata.1
+    closed (record { sg = sg.0; own = own.0; at_data = at_data.0 }, metadata.0) metadata.1
 
--- ---- one line after another: which comes next, and the setting as far as it is told
+-- ---- one line after another: which comes next, and the setting as far as it is told, with `metadata` beside it
 
 pub record Header : Type 0 where
   pub next : Next
   pub setting : Setting
+  pub metadata : Bool
 
 abbrev pub no_header : Header
 no_header = record {
   next = Title;
   setting = record { geometry = record { frames = 0; chunk = 0; headroom = 0 }; pairs = []; sockets = []; rules = record { sg = false; own = false; at_data = false } };
+  metadata = false;
 }
 
-abbrev pub towards : Next → Setting → Header
-towards next s = record { next = next; setting = s }
+abbrev pub towards : Next → Header → Header
+towards next h = record h { next = next }
+
+abbrev pub with_setting : Next → Header → Setting → Header
+with_setting next h s = record h { next = next; setting = s }
 
 -- at most 64 pairs, and 64 sockets
-abbrev pub with_pair : Setting → Pair → Option Header
-with_pair s pair = if nat_lt (length s.pairs) 64 then Some (towards Pairs (record s { pairs = s.pairs ++ pair ∷ [] })) else None
+abbrev pub with_pair : Header → Pair → Option Header
+with_pair h pair =
+    if nat_lt (length h.setting.pairs) 64 then Some (with_setting Pairs h (record h.setting { pairs = h.setting.pairs ++ pair ∷ [] })) else None
 
-abbrev pub with_socket : Setting → Socket → Option Header
-with_socket s socket = if nat_lt (length s.sockets) 64 then Some (towards Sockets (record s { sockets = s.sockets ++ socket ∷ [] })) else None
+abbrev pub with_socket : Header → Socket → Option Header
+with_socket h socket =
+    if nat_lt (length h.setting.sockets) 64 then Some (with_setting Sockets h (record h.setting { sockets = h.setting.sockets ++ socket ∷ [] }))
+    else None
 
-abbrev pub umem_line : Setting → List ℕ → Option Header
-umem_line s xs = umem_at xs >>= λ g. Some (towards Pairs (record s { geometry = g }))
+abbrev pub with_kernel : Header → Rules × Bool → Header
+with_kernel h told = record h { next = Mark; setting = record h.setting { rules = told.0 }; metadata = told.1 }
 
-abbrev pub pair_line : Setting → List ℕ → Option Header
-pair_line s xs = pair_at xs >>= with_pair s
+abbrev pub umem_line : Header → List ℕ → Option Header
+umem_line h xs = umem_at xs >>= λ g. Some (with_setting Pairs h (record h.setting { geometry = g }))
 
-abbrev pub socket_line : Setting → List ℕ → Option Header
-socket_line s xs = socket_at xs >>= with_socket s
+abbrev pub pair_line : Header → List ℕ → Option Header
+pair_line h xs = pair_at xs >>= with_pair h
 
-abbrev pub kernel_line : Setting → List ℕ → Option Header
-kernel_line s xs = rules_at xs >>= λ rules. Some (towards Mark (record s { rules = rules }))
+abbrev pub socket_line : Header → List ℕ → Option Header
+socket_line h xs = socket_at xs >>= with_socket h
 
-abbrev pub header_line : Next → Setting → List ℕ → Option Header
-header_line Title s xs = ended (codes "xsk recording 1") (towards Umem s) xs
-header_line Umem s xs = word_at (codes "umem ") xs >>= umem_line s
-header_line Pairs s xs = choose (word_at (codes "pair ") xs) (pair_line s) (choose (word_at (codes "socket ") xs) (socket_line s) None)
-header_line Sockets s xs = choose (word_at (codes "socket ") xs) (socket_line s) (choose (word_at (codes "kernel") xs) (kernel_line s) None)
-header_line Mark s xs = ended (codes "calls") (towards Calls s) xs
-header_line Calls s xs = None
+abbrev pub kernel_line : Header → List ℕ → Option Header
+kernel_line h xs = kernel_at xs >>= λ told. Some (with_kernel h told)
+
+abbrev pub header_line : Next → Header → List ℕ → Option Header
+header_line Title h xs = ended (codes "xsk recording 1") (towards Umem h) xs
+header_line Umem h xs = word_at (codes "umem ") xs >>= umem_line h
+header_line Pairs h xs = choose (word_at (codes "pair ") xs) (pair_line h) (choose (word_at (codes "socket ") xs) (socket_line h) None)
+header_line Sockets h xs = choose (word_at (codes "socket ") xs) (socket_line h) (choose (word_at (codes "kernel") xs) (kernel_line h) None)
+header_line Mark h xs = ended (codes "calls") (towards Calls h) xs
+header_line Calls h xs = None
 
 abbrev pub header_after : Header → List ℕ → Option Header
-header_after h xs = header_line h.next h.setting xs
+header_after h xs = header_line h.next h xs

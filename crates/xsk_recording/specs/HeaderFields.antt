@@ -18,6 +18,7 @@ header_of h = record {
     sockets = h.sockets.items;
     rules = h.rules;
   };
+  metadata = h.metadata;
 }
 
 -- what is told behind a line, where it was of the form

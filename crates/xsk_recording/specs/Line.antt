@@ -3,7 +3,7 @@
 --     TIME THREAD PLACE CALL -> REPLY
 --
 -- Rings and entries are written as in a journal (docs/AUDIT.md). A reader gives what it read, with the text behind it where more follows.
-use Rattle.std.specs.Prelude.{ℕ, zero, suc, ◌==◌, Bool, false, ◌||◌, not, if◌then◌else◌, Option, None, Some, List, [], ◌∷◌, codes, drop, true}
+use Rattle.std.specs.Prelude.{ℕ, zero, suc, ◌==◌, Bool, false, not, if◌then◌else◌, Option, None, Some, List, [], ◌∷◌, codes, drop, true}
 use Rattle.xsk_umem.specs.declared.batch.XdpDesc.{XdpDesc}
 use Rattle.xsk_model.specs.declared.call.Ring.{Ring}
 use Rattle.xsk_side.specs.declared.call.Answer.{Answer}

@@ -32,6 +32,15 @@ pub record Begins (text : List ℕ) (later : List (List ℕ)) (r : Read) : Type 
   pub read : lines_after nothing_read before ≡ Some r
   pub sound : IsSound r.header.next r
 
+-- what settles a verdict before the end of a text isn't found at it
+abbrev pub IsAtEnd : Verdict → Type 0
+IsAtEnd a_verdict.Empty = Unit {0}
+IsAtEnd a_verdict.NoCalls = Unit {0}
+IsAtEnd (a_verdict.Possible calls) = Unit {0}
+IsAtEnd (a_verdict.NotPossible line) = ⊥
+IsAtEnd (a_verdict.NoRecording line) = Unit {0}
+IsAtEnd (a_verdict.NoSetting line error) = ⊥
+
 -- the next line isn't of the form; or there is none, and the header isn't whole
 abbrev pub IsStuck : Read → List (List ℕ) → Type 0
 IsStuck r [] = r.header.next ≡ Calls → ⊥

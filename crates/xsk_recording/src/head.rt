@@ -1,6 +1,6 @@
 //! The header of a recording, line by line.
 ghost use Rattle.std.specs.Prelude.{◌≡◌, IfOk, IfErr};
-ghost use Rattle.xsk_recording.specs.Header.{three_at, pair_at, socket_at, size_told, flag_at, rules_at};
+ghost use Rattle.xsk_recording.specs.Header.{three_at, pair_at, socket_at, size_told, flag_at, kernel_at};
 ghost use Rattle.xsk_recording.specs.Header.{no_header, header_after, header_line, towards, pair_line, socket_line, kernel_line};
 ghost use Rattle.xsk_recording.specs.Line.{ended};
 ghost use Rattle.xsk_recording.specs.HeaderFields.{head_view, flag_view, is_mark, IsNoSetting};
@@ -41,6 +41,7 @@ pub(crate) struct Head {
     pairs: Vec<Pair>,
     sockets: Vec<Socket>,
     rules: Rules,
+    metadata: bool,
 }
 
 impl Model for Head {
@@ -71,6 +72,7 @@ impl Head {
                 own: false,
                 at_data: false,
             },
+            metadata: false,
         }
     }
 
@@ -86,6 +88,13 @@ impl Head {
         ensures { result ≡ is_mark self.now.next }
     {
         matches!(self.next, Next::Mark)
+    }
+
+    /// Whether the line of the kernel says that the UMEM has room for TX metadata.
+    pub(crate) fn metadata(&self) -> bool
+        ensures { result ≡ self.now.metadata }
+    {
+        self.metadata
     }
 
     /// Reads the next line, and tells whether it is of the form.
@@ -104,7 +113,7 @@ impl Head {
 
     /// Passes a line that is one word, behind which another comes.
     fn pass(&mut self, text: &[u8], expected: &[u8], next: Next) -> bool
-        ensures { head_view result self.new ≡ ended expected.now (towards next self.old.setting) text.now }
+        ensures { head_view result self.new ≡ ended expected.now (towards next self.old) text.now }
     {
         if !is_ended(text, expected) {
             return false;
@@ -115,7 +124,7 @@ impl Head {
 
     #[tactic(auto, unfolding(crate::specs::Header::umem_at))]
     fn read_umem(&mut self, text: &[u8]) -> bool
-        ensures { head_view result self.new ≡ header_line Next.Umem self.old.setting text.now }
+        ensures { head_view result self.new ≡ header_line Next.Umem self.old text.now }
     {
         let Some(rest) = word(text, b"umem ".as_slice()) else {
             return false;
@@ -131,7 +140,7 @@ impl Head {
     }
 
     fn read_pairs(&mut self, text: &[u8]) -> Result<bool, OutOfMemory>
-        ensures { IfOk result (λ read. head_view read self.new ≡ header_line Next.Pairs self.old.setting text.now) }
+        ensures { IfOk result (λ read. head_view read self.new ≡ header_line Next.Pairs self.old text.now) }
     {
         if let Some(rest) = word(text, b"pair ".as_slice()) {
             return self.read_pair(rest);
@@ -143,7 +152,7 @@ impl Head {
     }
 
     fn read_sockets(&mut self, text: &[u8]) -> Result<bool, OutOfMemory>
-        ensures { IfOk result (λ read. head_view read self.new ≡ header_line Next.Sockets self.old.setting text.now) }
+        ensures { IfOk result (λ read. head_view read self.new ≡ header_line Next.Sockets self.old text.now) }
     {
         if let Some(rest) = word(text, b"socket ".as_slice()) {
             return self.read_socket(rest);
@@ -155,7 +164,7 @@ impl Head {
     }
 
     fn read_pair(&mut self, text: &[u8]) -> Result<bool, OutOfMemory>
-        ensures { IfOk result (λ read. head_view read self.new ≡ pair_line self.old.setting text.now) }
+        ensures { IfOk result (λ read. head_view read self.new ≡ pair_line self.old text.now) }
     {
         let Some(pair) = pair(text) else {
             return Ok(false);
@@ -169,7 +178,7 @@ impl Head {
     }
 
     fn read_socket(&mut self, text: &[u8]) -> Result<bool, OutOfMemory>
-        ensures { IfOk result (λ read. head_view read self.new ≡ socket_line self.old.setting text.now) }
+        ensures { IfOk result (λ read. head_view read self.new ≡ socket_line self.old text.now) }
     {
         let Some(socket) = socket(text) else {
             return Ok(false);
@@ -183,12 +192,13 @@ impl Head {
     }
 
     fn read_kernel(&mut self, text: &[u8]) -> bool
-        ensures { head_view result self.new ≡ kernel_line self.old.setting text.now }
+        ensures { head_view result self.new ≡ kernel_line self.old text.now }
     {
-        let Some(rules) = rules(text) else {
+        let Some((rules, metadata)) = kernel(text) else {
             return false;
         };
         self.rules = rules;
+        self.metadata = metadata;
         self.next = Next::Mark;
         true
     }
@@ -262,17 +272,17 @@ fn size(told: u32) -> Option<u32>
     if told == 0 { None } else { Some(told) }
 }
 
-/// The switches of a kernel.
-#[tactic(auto, unfolding(crate::specs::Header::rules_at))]
-fn rules(text: &[u8]) -> Option<Rules>
-    ensures { result ≡ rules_at text.now }
+/// The switches of a kernel, and whether the UMEM has room for TX metadata.
+#[tactic(auto, unfolding(crate::specs::Header::kernel_at))]
+fn kernel(text: &[u8]) -> Option<(Rules, bool)>
+    ensures { result ≡ kernel_at text.now }
 {
     let (sg, rest) = flag(text, b" sg".as_slice());
     let (own, rest) = flag(rest, b" own".as_slice());
     let (at_data, rest) = flag(rest, b" data".as_slice());
-    let (_metadata, rest) = flag(rest, b" metadata".as_slice());
+    let (metadata, rest) = flag(rest, b" metadata".as_slice());
     if is_end(rest) {
-        Some(Rules { sg, own, at_data })
+        Some((Rules { sg, own, at_data }, metadata))
     } else {
         None
     }

@@ -2,7 +2,7 @@
 ghost use Rattle.std.specs.Prelude.{◌≡◌, ◌≢◌, ◌≤◌, ◌<◌, ◌==◌, ◌+◌, ◌++◌, ◌⊎◌, if◌then◌else◌, [], ℕ, List, IfOk, length, true, false};
 ghost use Rattle.xsk_recording.specs.Text.{Read, nothing_read, most_bytes, most_lines, ends_line};
 ghost use Rattle.xsk_recording.specs.Feeding.{Shows, Tells, StandsFor, IsNext, IsKept, IsFault, IsHanded, is_calls};
-ghost use Rattle.xsk_recording.specs.Verdict.{IsSound, IsVerdict};
+ghost use Rattle.xsk_recording.specs.Verdict.{IsAtEnd, IsSound, IsVerdict};
 
 use crate::head::{Head, Next};
 use crate::line::{Timed, Told, line};
@@ -28,8 +28,8 @@ pub enum Event {
     Begun,
     /// A line of the header.
     Passed,
-    /// The header's line of the kernel, and the setting that the header has told.
-    Setting(Setting),
+    /// The header's line of the kernel: the setting that the header has told, and whether the UMEM has room for TX metadata.
+    Setting { setting: Setting, metadata: bool },
     /// The same, and why what the header has told is no setting.
     NoSetting(SettingError),
     /// A line of a call.
@@ -96,7 +96,8 @@ impl Reading {
 
     /// The verdict at the end of a text, of which so many calls were read, and each was found possible after those before it.
     pub fn verdict(&self, calls: u64) -> Verdict
-        ensures { (text : List ℕ) (r : Read) → StandsFor self.now text r → calls ≡ length r.calls → IsSound r.header.next r → IsVerdict text result }
+        ensures is { (text : List ℕ) (r : Read) → StandsFor self.now text r → calls ≡ length r.calls → IsSound r.header.next r → IsVerdict text result }
+        ensures end { IsAtEnd result }
     {
         if !self.begun.is_empty() {
             return self.missing();
@@ -214,14 +215,15 @@ impl Reading {
 
     /// Hands out the setting of the header.
     fn hand_out(&mut self) -> Event
-        ensures told { IsHanded self.old.header.setting result }
+        ensures told { IsHanded self.old.header result }
         ensures next { self.new.header.next ≡ self.old.header.next }
         ensures time { self.new.time ≡ self.old.time }
         ensures lines { self.new.lines ≡ self.old.lines }
         ensures begun { self.new.begun ≡ self.old.begun }
     {
+        let metadata = self.head.metadata();
         match self.head.take(self.alloc) {
-            Ok(setting) => Event::Setting(setting),
+            Ok(setting) => Event::Setting { setting, metadata },
             Err(error) => Event::NoSetting(error),
         }
     }

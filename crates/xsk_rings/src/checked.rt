@@ -1,4 +1,5 @@
-//! A pass that tells which of its caller's calls are legal.
+//! A pass that tells which of its caller's calls are legal. Each call is noted (`specs/Checked`, the invariant), so
+//! `allows` is exact.
 ghost use Rattle.std.specs.Prelude.{◌≡◌, ◌+◌, ◌<◌, ◌≤◌, ◌↔◌, List, [], IfOk, IfErr, IsTrue};
 ghost use Rattle.xsk_umem.specs.declared.batch.Item.{Item as Thing};
 ghost use Rattle.xsk_model.specs.Asks.{joined_call, joined_reply, HasAsked, HasAnswered};
@@ -7,7 +8,8 @@ ghost use Rattle.xsk_model.specs.Entry.{own};
 ghost use Rattle.xsk_model.specs.Legal.{IsLegal};
 ghost use Rattle.xsk_model.specs.declared.call.Call.TheVariants.{Reserve};
 ghost use Rattle.xsk_table.specs.View.{idle};
-ghost use Rattle.xsk_table.specs.Held.{Belongs, is_covered};
+ghost use Rattle.xsk_table.specs.Known.{free_after};
+ghost use Rattle.xsk_table.specs.Held.{Belongs, is_covered, with_known};
 ghost use Rattle.xsk_table.specs.Meeting.{Meets, note_by};
 ghost use Rattle.xsk_rings.specs.Serving.{MayAsk, Served, Tells, looks_of};
 ghost use Rattle.xsk_rings.specs.Rounds.{Rests, mine_of};
@@ -79,7 +81,8 @@ impl CheckedPass {
         self.pass.covers(shared, ask)
     }
 
-    /// Makes a Reserve by a look at the consumer's count, whatever is known of it, and counts one look.
+    /// Makes a Reserve by a look at the consumer's count, whatever is known of it, and counts one look. The places that it finds
+    /// left free are then known, as after `Pass::reserve_step`.
     pub fn reserve_anew<L: Ledger>(
         &mut self,
         shared: &Shared,
@@ -89,6 +92,7 @@ impl CheckedPass {
     ) -> Answer
         requires may { MayAsk shared.now self.old (Reserve ring count) }
         ensures served { Served self.old self.new (Reserve ring count) (joined_reply result []) }
+        ensures known { self.new.known ≡ with_known self.old ring (free_after self.old.view.setup self.new.view.seen ring) }
         ensures answered { HasAnswered result [] }
         ensures counted { steps.new ≡ steps.old + 1 }
     {
@@ -191,6 +195,7 @@ fn reserve_noted<L: Ledger>(
     requires may { MayAsk shared.now pass.old (Reserve ring count) }
     requires noted { NotesOwn pass.old standing.old }
     ensures served { Served pass.old pass.new (Reserve ring count) (joined_reply result []) }
+    ensures known { pass.new.known ≡ with_known pass.old ring (free_after pass.old.view.setup pass.new.view.seen ring) }
     ensures answered { HasAnswered result [] }
     ensures noted { NotesOwn pass.new standing.new }
     ensures counted { steps.new ≡ steps.old + 1 }

@@ -1,4 +1,6 @@
-//! The four ring calls and the two on marks, each by the steps of the table.
+//! The four ring calls and the two on marks, each by the steps of the table. A call takes effect at one of its steps,
+//! and its reply is the object's at that point (`specs/Serving`): all its other steps move entries that are the caller's
+//! own.
 ghost use Rattle.std.specs.Prelude.{◌≡◌, ◌+◌, List, [], length, true};
 ghost use Rattle.xsk_umem.specs.declared.batch.Item.{Item as Thing};
 ghost use Rattle.xsk_model.specs.Asks.{joined_reply, HasAnswered};

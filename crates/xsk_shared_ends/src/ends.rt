@@ -1,4 +1,5 @@
-//! The ends of one application's rings.
+//! The ends of one application's rings. All that a step touches is here, and is back when it returns: the calls so far
+//! are then a split run of the application (`specs/Shown`, the invariant; `xsk_turns/specs/AppSplit`).
 ghost use Rattle.std.specs.Prelude.{◌≡◌, ◌+◌, ◌<◌, ◌≤◌, [], length, IfOk, IfErr, true};
 ghost use Rattle.xsk_model.specs.Expected.{nothing};
 ghost use Rattle.xsk_model.specs.Rings.{caller_of};

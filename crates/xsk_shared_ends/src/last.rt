@@ -1,4 +1,5 @@
-//! The last hand of an application: it has the ends to itself.
+//! The last hand of an application: it has the ends to itself. So the machine may go on from what the steps left
+//! (`specs/Last`).
 ghost use Rattle.std.specs.Prelude.{◌≡◌, ◌↔◌, false, true, length, IsOk, IfOk, IfErr};
 ghost use Rattle.xsk_table.specs.View.{idle};
 ghost use Rattle.xsk_table.specs.Held.{Belongs};

@@ -1,4 +1,5 @@
-//! Visits to a lane and to a side: the calls of the application's turn for it.
+//! Visits to a lane and to a side: the calls of the application's turn for it. They are those of the script's piece for
+//! it, and no others (`specs/Standing`).
 ghost use Rattle.std.specs.Prelude.{◌≡◌, ℕ, [], length};
 ghost use Rattle.xsk_model.specs.Config.{batch_of};
 ghost use Rattle.xsk_model.specs.Entry.{with_told};

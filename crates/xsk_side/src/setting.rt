@@ -1,4 +1,5 @@
-//! The setting of a recording: one UMEM, its rings, and what its kernel may do.
+//! The setting of a recording: one UMEM, its rings, and what its kernel may do. Only `new` makes a setting, so each is
+//! one (`specs/Setting`, the invariant).
 ghost use Rattle.std.specs.Prelude.{◌≡◌, ◌≤◌, ◌<◌, ◌↔◌, IfOk, IsOk, IsErrOf, IsTrue, IfSome, List, length};
 ghost use Rattle.std.specs.Int.{is_power_of_two};
 ghost use Rattle.xsk_side.specs.Setting.{IsSetting, IsUmem, IsPair, IsSocket, IsRingSize, AreFrames, IsChunk, ArePairs, AreSockets};

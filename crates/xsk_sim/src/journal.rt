@@ -3,7 +3,7 @@ ghost use Rattle.std.specs.Prelude.{◌≡◌, ◌<◌, ℕ, List, [], ◌∷◌
 ghost use Rattle.std.specs.Fmt.{decimal};
 ghost use Rattle.std.specs.List.{slice_index_or};
 ghost use Rattle.xsk_model.specs.Entry.{Entry};
-ghost use Rattle.xsk_log.specs.Left.{left_of};
+ghost use Rattle.xsk_log.specs.Left.{left_of, pairs_of};
 ghost use Rattle.xsk_log.specs.Log.{entries_of};
 ghost use Rattle.xsk_sim.specs.Counts.{AreCounts};
 ghost use Rattle.xsk_sim.specs.Journal.{journal_of, round_of};
@@ -51,7 +51,7 @@ fn append_lines(
     lines: Lines<'_>,
 ) -> Result<(), OutOfMemory>
     requires { left_of lines ≡ entries_of log.now }
-    ensures { OnOk result (text.new.items ≡ text.old.items ++ journal_of lines.entry.pairs (entries_of log.now)) }
+    ensures { OnOk result (text.new.items ≡ text.old.items ++ journal_of (pairs_of lines.entry) (entries_of log.now)) }
 {
     let mut counts = Vec::new(alloc);
     let mut line = LineBuffer::new();

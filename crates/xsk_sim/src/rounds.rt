@@ -1,4 +1,5 @@
-//! Rounds, in which each worker makes one call.
+//! Rounds, in which each worker makes one call. In which order is said in `specs/Order`; laws of runs speak of the
+//! history that comes of it (`specs/Rounds`, `specs/Runs`), and of no order.
 ghost use Rattle.std.specs.Prelude.{◌≡◌, ◌<◌, ◌≤◌, ◌+◌, ◌^◌, ◌↔◌, ℕ, List, IsTrue, [], ◌∷◌, vec_len, IfOk};
 ghost use Rattle.xsk_umem.specs.Geometry.{IsGeometry};
 ghost use Rattle.xsk_umem.specs.Frame.{Frame};

@@ -1,4 +1,5 @@
-//! A worker in the rounds, with its next call.
+//! A worker in the rounds, with its next call. The call and its items are lent to the object and written by the machine;
+//! `awaits` says that the machine waits for its reply.
 ghost use Rattle.std.specs.Prelude.{◌≡◌, ◌≤◌, ◌+◌, false, ℕ, List, [], IsTrue, ◌↔◌};
 ghost use Rattle.xsk_umem.specs.declared.batch.Item.{Item};
 ghost use Rattle.xsk_model.specs.Asks.{joined_call, joined_reply};

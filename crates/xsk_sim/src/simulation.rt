@@ -6,7 +6,7 @@ ghost use Rattle.xsk_umem.specs.Geometry.{IsGeometry};
 ghost use Rattle.xsk_model.specs.Config.{IsRegular, callers_of, classes_of};
 ghost use Rattle.xsk_model.specs.Opening.{AreFrames, IsOpened};
 ghost use Rattle.xsk_umem.specs.Frame.{Frame};
-ghost use Rattle.xsk_log.specs.Left.{left_of};
+ghost use Rattle.xsk_log.specs.Left.{left_of, pairs_of};
 ghost use Rattle.xsk_log.specs.Log.{calls_of, entries_of};
 ghost use Rattle.xsk_turns.specs.Mangling.{plain as plain_manner};
 ghost use Rattle.xsk_prog.specs.declared.rule.Verdict.{Verdict as AVerdict};
@@ -118,7 +118,7 @@ impl Run {
 
     /// Goes over all calls with their replies.
     pub(crate) fn lines(&self) -> Lines<'_>
-        ensures pairs { result.pairs ≡ self.now.pairs }
+        ensures pairs { pairs_of result ≡ self.now.pairs }
         ensures all { left_of result ≡ self.now.log }
     {
         self.plain.lines()

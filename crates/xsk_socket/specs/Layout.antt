@@ -87,6 +87,10 @@ fault_of l = first_unmet (demands l)
 abbrev pub geometry_of : Layout → Geometry
 geometry_of l = record { frames = l.frames; chunk = l.chunk; headroom = l.headroom }
 
+-- the entries of each ring, where a command says nothing of it
+abbrev pub usual_entries : ℕ
+usual_entries = 2048
+
 -- the layout of a command that says nothing of it
 abbrev pub usual : Layout
 usual = record {
@@ -98,10 +102,10 @@ usual = record {
   chunk = 4096;
   headroom = 0;
   frames = 256;
-  rx = 2048;
-  tx = 2048;
-  fill = 2048;
-  comp = 2048;
+  rx = usual_entries;
+  tx = usual_entries;
+  fill = usual_entries;
+  comp = usual_entries;
   sg = false;
   wakeup = false;
   empty = None;

@@ -49,8 +49,32 @@ pub struct Layout {
     pub hands: u32,
 }
 
+/// The entries of each ring, where nothing is said of it.
+const USUAL_ENTRIES: u32 = 2048;
+
 /// The layout of a command that says nothing of it: two ports with a queue and a socket each, 256 frames of 4,096 bytes, and
-/// rings of 2,048 entries; no socket is closed, and each application is one thread. It is accepted.
+/// rings of 2,048 entries; no socket is closed, and each application is one thread.
+pub const USUAL: Layout = Layout {
+    ports: 2,
+    queues: 1,
+    sockets: 1,
+    files: 0,
+    files_wanted_per_port: 0,
+    chunk: 4096,
+    headroom: 0,
+    frames: 256,
+    rx: USUAL_ENTRIES,
+    tx: USUAL_ENTRIES,
+    fill: USUAL_ENTRIES,
+    comp: USUAL_ENTRIES,
+    sg: false,
+    wakeup: false,
+    empty: None,
+    close: None,
+    hands: 1,
+};
+
+/// [`USUAL`]. It is accepted.
 impl Default for Layout {
     ghost use Rattle.std.specs.Prelude.{◌≡◌, None};
     ghost use Rattle.xsk_socket.specs.Layout.{fault_of, usual};
@@ -58,25 +82,7 @@ impl Default for Layout {
     ghost is_default = { λ l. (l ≡ usual) × (fault_of l ≡ None) };
 
     fn default() -> Layout {
-        Layout {
-            ports: 2,
-            queues: 1,
-            sockets: 1,
-            files: 0,
-            files_wanted_per_port: 0,
-            chunk: 4096,
-            headroom: 0,
-            frames: 256,
-            rx: 2048,
-            tx: 2048,
-            fill: 2048,
-            comp: 2048,
-            sg: false,
-            wakeup: false,
-            empty: None,
-            close: None,
-            hands: 1,
-        }
+        USUAL
     }
 }
 

@@ -11,7 +11,7 @@ mod socket;
 
 pub use error::SetupError;
 pub use frames::all_frames;
-pub use layout::{Layout, Unlawful, check_layout};
+pub use layout::{Layout, USUAL, Unlawful, check_layout};
 pub use numbering::regular;
 pub use setup::{
     SealRefused, Setup, XDP_COPY, XDP_SHARED_UMEM, XDP_USE_NEED_WAKEUP, XDP_USE_SG, XDP_ZEROCOPY,

@@ -1,4 +1,5 @@
-//! Sockets over one UMEM, from socket() to bind().
+//! Sockets over one UMEM, from socket() to bind(). Each call that is accepted keeps what holds of a setup
+//! (`specs/Sound`, the invariant); a refused one changes nothing.
 ghost use Rattle.std.specs.Prelude.{◌≡◌, ◌⊎◌, ◌↔◌, [], ◌∷◌, None, Some, Err, IfOk, OnOk, OnErr, IsOk, IsOkUnless, IfErr, IsSome, false, length, if◌then◌else◌};
 ghost use Rattle.std.specs.Result.{result_err};
 ghost use Rattle.xsk_socket.specs.Fits.{IsCount};

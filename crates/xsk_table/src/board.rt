@@ -1,5 +1,5 @@
 //! The words and slots that all callers share. Nothing else of the crate reads a word, and what another side's count is
-//! read by counts the look.
+//! read by counts the look. That each step keeps the rule (`specs/Rule`) is asked here, by the `Play` that it is given.
 ghost use Rattle.std.specs.Prelude.{◌≡◌, ◌+◌, ◌<◌, ℕ, [], ◌∷◌, length, Option, IfOk, IfErr};
 ghost use Rattle.xsk_umem.specs.Frame.{Frame as Body};
 ghost use mathlib.Core.Option.{none};

@@ -1,4 +1,5 @@
-//! Where the words of rings and marks stand in one row.
+//! Where the words of rings and marks stand in one row. No other file counts words. Each has a place of its own
+//! (`laws::own_words`), and no count shares its cache line with anything.
 ghost use Rattle.std.specs.Prelude.{◌≡◌, ◌+◌, ◌*◌, ◌<◌, ◌≤◌, take, get_or};
 ghost use Rattle.std.specs.List.{sum};
 ghost use Rattle.xsk_model.specs.Config.{IsConfig, HasRing};

@@ -1,4 +1,5 @@
-//! How frames move into a ring and out of it. A frame's slot is with the caller only while the frame is moved.
+//! How frames move into a ring and out of it. A frame's slot is with the caller only while the frame is moved. Between
+//! two calls a pass holds none (`specs/Held`, its invariant).
 ghost use Rattle.std.specs.Prelude.{Option, None, List, [], ◌∷◌, length, ◌≡◌, ◌+◌, ◌-◌, ◌*◌, ◌%◌, ◌^◌, ◌<◌, ◌≤◌, ℕ};
 ghost use Rattle.std.specs.Option.{option_map};
 ghost use Rattle.xsk_umem.specs.Frame.{Frame as Body};

@@ -1,4 +1,5 @@
-//! Notes: what a caller has seen, to be handed to others.
+//! Notes: what a caller has seen, to be handed to others. A note has no caller and holds no slot (the invariant), so it
+//! may be sent, and may be dropped.
 ghost use Rattle.std.specs.Prelude.{◌≡◌, ◌<◌, ◌≤◌, [], ℕ};
 ghost use Rattle.xsk_model.specs.Numbers.{times};
 ghost use Rattle.xsk_model.specs.declared.call.Ring.TheVariants.{Fill};

@@ -1,4 +1,6 @@
-//! A caller's way to the rings: the step calls.
+//! A caller's way to the rings: the step calls. What it keeps is tied to the history that it has seen (`specs/Held`, the
+//! invariant), so a step changes both. From `place` to `raise_producer`, and from a Peek to its last `fetch`, no other
+//! call is legal.
 ghost use Rattle.std.specs.Prelude.{List, [], ◌∷◌, ◌++◌, ℕ, length, ◌≡◌, ◌+◌, ◌<◌, ◌≤◌};
 ghost use Rattle.xsk_umem.specs.declared.batch.Item.{Item as Thing};
 ghost use Rattle.xsk_model.specs.Asks.{joined_reply};

@@ -1,4 +1,5 @@
-//! What a seat of the table knows, the rule, and what each step tells.
+//! What a seat of the table knows, the rule, and what each step tells. No value of these types is made: a step's type
+//! says what the step tells (`specs/Plays`), and each keeps `specs/Rule`.
 ghost use Rattle.std.specs.Prelude.{◌≡◌};
 
 use atomic_table::{Play, Split, TableRule};

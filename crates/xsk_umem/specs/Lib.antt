@@ -1,3 +1,6 @@
+-- The memory that sockets share. To read in this order:
+-- Geometry, Registration, Limits: how an area is cut. Frame, Frames, Batch: what moves.
+-- PacketList, Span, Shared: packets in one text. For code: Walks.
 pub mod Geometry
 pub mod Batch
 pub mod Frame

@@ -1,4 +1,5 @@
-//! Descriptors, items, and batches of items held in a ring of places.
+//! Descriptors, items, and batches of items held in a ring of places. Only this file knows in which place an item lies:
+//! to all others a batch is the list of its items (`specs/Batch`).
 ghost use Rattle.std.specs.Prelude.{◌≡◌, ◌+◌, ◌<◌, ◌≤◌, List, [], ◌∷◌, ◌++◌, length, Some, slice_get, ◌↔◌, IsTrue, IsNone, IfSome, IfNone};
 ghost use Rattle.xsk_umem.specs.Limits.{most_items};
 

@@ -1,4 +1,5 @@
-//! Frames, each a number and its chunk, and queues of frames.
+//! Frames, each a number and its chunk, and queues of frames. Only a registration makes frames (`Frame::zeroed`), and no
+//! call copies, renumbers or resizes one. So contracts can count the holders of a number, and each has one.
 //!
 //! A frame tells its number and not its UMEM. Who registers two UMEMs keeps their frames apart: a frame of the one passes for the
 //! other's frame of the same number, and what is then read at an address are bytes of the wrong area.

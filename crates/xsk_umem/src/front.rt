@@ -1,4 +1,5 @@
-//! The front of a text that lists share.
+//! The front of a text that lists share. The room for a copy is taken when the front is made (`enough`), so no later
+//! call takes memory.
 ghost use Rattle.std.specs.Prelude.{◌≡◌, ◌≤◌, length, take, vec_capacity, IfOk};
 ghost use Rattle.std.specs.Arc.{arc_value};
 

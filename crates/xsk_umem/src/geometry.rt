@@ -1,4 +1,5 @@
-//! The geometry of a UMEM: addresses by frame number, and what stands in a frame.
+//! The geometry of a UMEM: addresses by frame number, and what stands in a frame. Only `of_area` makes a geometry, so
+//! each is one (`specs/Geometry`, the invariant).
 ghost use Rattle.std.specs.Prelude.{◌≡◌, ◌/◌, None, Some, Err, Ok};
 ghost use Rattle.xsk_umem.specs.Geometry.{Geometry as Numbers, IsGeometry, payload_of, base_of, data_of, frame_of};
 ghost use Rattle.xsk_umem.specs.Registration.{first_refusal};

@@ -1,4 +1,5 @@
-//! Lists of packets, as spans of one text.
+//! Lists of packets, as spans of one text. Text, spans and gaps change together: the spans stay in order, apart, behind
+//! their gaps and within the text, which is the invariant (`specs/Span`).
 ghost use Rattle.std.specs.Prelude.{ℕ, ◌≡◌, ◌+◌, ◌*◌, ◌<◌, ◌≤◌, ◌^◌, All, List, [], ◌∷◌, ◌++◌, length, map, replicate, sum_by, None, Some, false, slice_get, ◌↔◌, IsTrue, IfOk, IfSome, IsSome, OnOk, OnErr, vec_len, vec_capacity};
 ghost use Rattle.std.specs.Borrow.{sem};
 ghost use Rattle.std.specs.Io.BufRead.{Rests};

@@ -11,5 +11,5 @@ returns-in-Some c =
 
 pub returns : goal.returns
 returns c =
-    c.verdict.ensures c.args.text.now
+    c.verdict.ensures.is c.args.text.now
     (subst (λ (f : Option Finding). Goes c.read.new.self [] c.args.text.now f) c.in-None.is (c.in_ok-finding.ensures [] c.new-check.ensures))

@@ -1,5 +1,5 @@
 use Rattle.std.proofs.Common.{rules, ◌≡◌, ◌∙◌, ◌∷◌, [], ap, sym, subst, Some, Option}
-use Rattle.std.specs.Prelude.{Bool, codes, is_some}
+use Rattle.std.specs.Prelude.{Bool}
 use Rattle.xsk_args.specs.Words.{Text}
 use Rattle.xsk_args.specs.Meaning.{Meaning, under}
 use Rattle.xsk_socket.specs.Layout.{fault_of}
@@ -7,7 +7,8 @@ use Rattle.xsk_socket.specs.declared.layout.Layout.{Layout}
 use Rattle.xsk_cli.specs.Steps.{Comes}
 use Rattle.xsk_io.specs.Bay.{Moment}
 use Rattle.xsk_cli.specs.declared.failure.Refusal.TheVariants.{Bare}
-use Rattle.xsk_cli.specs.Words.{Plan, audit_plan_by, files_in, layout_by, without_files}
+use Rattle.xsk_cli.specs.Options.{why}
+use Rattle.xsk_cli.specs.Words.{Plan, audit_plan_by, files_in, is_said, layout_by, without_files}
 use Rattle.xsk_cli.specs.declared.status.Status.TheVariants.{Refused}
 use Rattle.xsk_cli.specs.declared.words.Work.TheVariants.{Audit}
 use Rattle.xsk_cli.proofs.Auditing.{none_by, one_plan}
@@ -39,6 +40,6 @@ returns g c =
     let file : Text = c.in-Some.file.now in
     let planned : audit_plan_by said (files_in said) ≡ Some (record { inputs = file ∷ []; outputs = []; work = Audit c.in_ok-layout.layout c.is_said.result }) =
     ap (audit_plan_by said) c.in-Some.ensures.one
-    ∙ ap (λ (l : Layout). Some (record { inputs = file ∷ []; outputs = []; work = Audit l (is_some (said (codes "why"))) })) (sym c.in_ok-layout.ensures.layout)
+    ∙ ap (λ (l : Layout). Some (record { inputs = file ∷ []; outputs = []; work = Audit l (is_said said why) })) (sym c.in_ok-layout.ensures.layout)
     ∙ ap (λ (b : Bool). Some (record { inputs = file ∷ []; outputs = []; work = Audit c.in_ok-layout.layout b })) (sym c.is_said.ensures) in
     subst (λ (o : Option Plan). Comes o old new c.audit_file.result) (sym planned) c.audit_file.ensures

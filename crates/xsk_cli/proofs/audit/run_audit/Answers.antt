@@ -5,7 +5,8 @@ use Rattle.xsk_args.specs.Meaning.{Meaning, meaning}
 use Rattle.xsk_cli.specs.Steps.{Comes, args_status}
 use Rattle.xsk_io.specs.Bay.{Moment}
 use Rattle.xsk_cli.specs.declared.failure.Refusal.TheVariants.{Bare}
-use Rattle.xsk_cli.specs.Words.{Plan, audit_options, audit_plan, audit_plan_by, files_in}
+use Rattle.xsk_cli.specs.Options.{of_audit}
+use Rattle.xsk_cli.specs.Words.{Plan, audit_plan, audit_plan_by, files_in}
 use Rattle.xsk_cli.proofs.Coming.{args_comes, comes_as, err_is}
 use Rattle.xsk_cli.proofs.audit.run_audit.Goals as goal
 
@@ -17,7 +18,7 @@ returns-in_err-args g c =
     let error = c.in_err-args.field-0.0 in
     comes_as c.from_residual.result (Bare (args_status error)) planned now now (err_is c.from_residual.result (Bare (args_status error)) c.from_residual.ensures.1)
     (args_comes planned now c.requires error
-    (λ is. let none : meaning (codes "audit") audit_options words ≡ None = c.in_err-args.ensures.usage (ap Err is) in ap (option_and_then (λ said. audit_plan_by said (files_in said))) none))
+    (λ is. let none : meaning (codes "audit") of_audit words ≡ None = c.in_err-args.ensures.usage (ap Err is) in ap (option_and_then (λ said. audit_plan_by said (files_in said))) none))
 
 pub returns : goal.returns
 returns g c =

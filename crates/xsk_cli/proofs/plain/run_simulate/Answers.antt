@@ -6,7 +6,8 @@ use Rattle.xsk_socket.specs.Layout.{fault_of}
 use Rattle.xsk_cli.specs.Steps.{args_status, plan_in}
 use Rattle.xsk_io.specs.Bay.{Moment}
 use Rattle.xsk_cli.specs.Streams.{status_in, text_in}
-use Rattle.xsk_cli.specs.Words.{Plan, layout_by, options, plan_by, planned_by, simulate_plan}
+use Rattle.xsk_cli.specs.Options.{of_simulate}
+use Rattle.xsk_cli.specs.Words.{Plan, layout_by, plan_by, planned_by, simulate_plan}
 use Rattle.xsk_cli.specs.declared.failure.Refusal.TheVariants.{Bare}
 use Rattle.xsk_cli.specs.declared.status.Status.TheVariants.{Refused}
 use Rattle.xsk_cli.proofs.Coming.{args_comes, comes_as, err_is, plan_comes, refused_comes}
@@ -21,7 +22,7 @@ returns-in_err-args g c =
     let error = c.in_err-args.field-0.0 in
     comes_as c.from_residual.result (Bare (args_status error)) planned now now (err_is c.from_residual.result (Bare (args_status error)) c.from_residual.ensures.1)
     (args_comes planned now c.requires error
-    (λ is. let none : meaning (codes "simulate") options words ≡ None = c.in_err-args.ensures.usage (ap Err is) in ap (option_and_then planned_by) none))
+    (λ is. let none : meaning (codes "simulate") of_simulate words ≡ None = c.in_err-args.ensures.usage (ap Err is) in ap (option_and_then planned_by) none))
 
 pub returns-in_err-check_words : goal.returns-in_err-check_words
 returns-in_err-check_words g c =
@@ -30,7 +31,7 @@ returns-in_err-check_words g c =
     let planned : Option Plan = simulate_plan words in
     let error = c.in_err-check_words.field-0.0 in
     comes_as c.from_residual-in_err-check_words.result (Bare (args_status error)) planned now now (err_is c.from_residual-in_err-check_words.result (Bare (args_status error)) c.from_residual-in_err-check_words.ensures.1)
-    (args_comes planned now c.requires error (λ _. has_no_plan (under c.in_ok-args.args) (meaning (codes "simulate") options words) c.in_ok-args.ensures.told c.in_err-check_words.ensures.usage.1))
+    (args_comes planned now c.requires error (λ _. has_no_plan (under c.in_ok-args.args) (meaning (codes "simulate") of_simulate words) c.in_ok-args.ensures.told c.in_err-check_words.ensures.usage.1))
 
 pub run_in_rounds-result-requires-clause-ready : goal.run_in_rounds-result-requires-clause-ready
 run_in_rounds-result-requires-clause-ready g c = plan_ready (under c.in_ok-args.args) (plan_in c.in_ok-plan.plan) c.in_ok-check_words.ensures.passed c.in_ok-plan.ensures.plan c.in_ok-plan.ensures.accepted
@@ -42,7 +43,7 @@ returns-in_err-plan g c =
     let planned : Option Plan = simulate_plan words in
     let unlawful = c.in_err-plan.field-0.0 in
     let fault : fault_of (layout_by (under c.in_ok-args.args)) ≡ Some unlawful = c.in_err-plan.ensures.refused in
-    let is : planned ≡ Some (plan_by (under c.in_ok-args.args)) = has_plan (under c.in_ok-args.args) (meaning (codes "simulate") options words) c.in_ok-args.ensures.told c.in_ok-check_words.ensures.passed in
+    let is : planned ≡ Some (plan_by (under c.in_ok-args.args)) = has_plan (under c.in_ok-args.args) (meaning (codes "simulate") of_simulate words) c.in_ok-args.ensures.told c.in_ok-check_words.ensures.passed in
     comes_as c.from_residual-in_err-plan.result (Bare (Refused unlawful)) planned now now (err_is c.from_residual-in_err-plan.result (Bare (Refused unlawful)) c.from_residual-in_err-plan.ensures.1)
     (refused_comes planned now c.requires (plan_by (under c.in_ok-args.args)) unlawful is fault)
 
@@ -54,6 +55,6 @@ returns g c =
     let planned : Option Plan = simulate_plan words in
     let plan : Plan = plan_in c.in_ok-plan.plan in
     let is : planned ≡ Some plan =
-    has_plan (under c.in_ok-args.args) (meaning (codes "simulate") options words) c.in_ok-args.ensures.told c.in_ok-check_words.ensures.passed ∙ ap Some (sym c.in_ok-plan.ensures.plan) in
+    has_plan (under c.in_ok-args.args) (meaning (codes "simulate") of_simulate words) c.in_ok-args.ensures.told c.in_ok-check_words.ensures.passed ∙ ap Some (sym c.in_ok-plan.ensures.plan) in
     plan_comes planned plan old new (status_in c.run_in_rounds-result.result.result) (text_in c.run_in_rounds-result.result.result) is c.in_ok-plan.ensures.accepted c.run_in_rounds-result.ensures.begun
     c.run_in_rounds-result.ensures.ends c.run_in_rounds-result.ensures.silent c.run_in_rounds-result.ensures.cause c.run_in_rounds-result.ensures.falls c.run_in_rounds-result.ensures.others

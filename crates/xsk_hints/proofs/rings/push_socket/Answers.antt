@@ -11,5 +11,5 @@ returns c lines stands notes =
     let k = c.args.socket in
     let rx = retold (λ o. where_some o (shown_lines s lines (Rx k))) _ _ _ (socket_at s k).rx (c.in_ok-push_rx.ensures lines stands) (search rules) in
     on_ok c.push_tx.result _ _
-    (λ is. after _ _ _ _ _ rx (retold (λ o. where_some o (tx_lines s lines k)) _ _ _ (socket_at s k).tx is (search rules)))
+    (λ is. after _ _ _ _ _ rx (retold (λ o. where_some o (tx_lines s c.args.hints.now.metadata lines k)) _ _ _ (socket_at s k).tx is (search rules)))
     (c.push_tx.ensures lines stands notes)

@@ -8,4 +8,4 @@ use Rattle.xsk_hints.proofs.rings.push_sockets.Given as goal
 
 abbrev pub invariant-loop-socket : goal.invariant-loop-socket
 invariant-loop-socket l = (lines : List Line) → StandsFor l.setting l.judge lines → Notes l.setting l.hints lines
-    → l.text.items ≡ l.initial.text.items ++ flat_map (socket_lines l.setting lines) (range_with_len 0 l.socket)
+    → l.text.items ≡ l.initial.text.items ++ flat_map (socket_lines l.setting l.hints.metadata lines) (range_with_len 0 l.socket)

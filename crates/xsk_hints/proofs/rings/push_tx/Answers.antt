@@ -22,5 +22,5 @@ returns c lines stands notes =
     on_ok c.push_unpeeked.result _ _
     (λ is.
     after _ _ _ _ _ (c.in_ok-push_made.ensures lines stands notes) (is ∙ ap (λ w. c.push_made.new.text.items ++ w) same)
-    ∙ ap (λ w. c.args.text.now.items ++ w) (sym (where_there c.args.size (tx_lines s lines k) there)))
+    ∙ ap (λ w. c.args.text.now.items ++ w) (sym (where_there c.args.size (tx_lines s c.args.hints.now.metadata lines k) there)))
     c.push_unpeeked.ensures

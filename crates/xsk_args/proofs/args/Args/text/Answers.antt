@@ -6,6 +6,6 @@ use Rattle.xsk_args.proofs.Reading.{first_told, under_rows}
 use Rattle.xsk_args.proofs.args.Args.text.Goals as goal
 
 pub returns : goal.returns
-returns c = first_told (found_of c.self.inside.matches) c.args.name.now _ c.get_str.ensures
-    ∙ ap one_value (sym (under_rows c.args.name.now (rows_of (found_of c.self.inside.matches))))
-    ∙ ap (λ (said : List Said). one_value (under said c.args.name.now)) c.self.view_is
+returns c = first_told (found_of c.self.inside.matches) c.args.option.now.name.now _ c.get_str.ensures
+    ∙ ap one_value (sym (under_rows c.args.option.now.name.now (rows_of (found_of c.self.inside.matches))))
+    ∙ ap (λ (said : List Said). one_value (under said c.args.option.now.name.now)) c.self.view_is

@@ -1,4 +1,4 @@
-use Rattle.std.proofs.Common.{ap, refl, subst, sym, None, Some}
+use Rattle.std.proofs.Common.{ap, refl, subst, sym, Bool, None, Some}
 use Rattle.xsk_side.specs.Setting.{Setting}
 use Rattle.xsk_recording.specs.declared.reading.Event.{Event}
 use Rattle.xsk_recording.specs.declared.reading.Event.TheVariants as an_event
@@ -23,7 +23,8 @@ returns-in_ok-court-in-Setting-clause-heard c = λ r xs heard counted number tol
     subst (λ (e : Event). Hears new r xs e None) (sym c.in-Setting.is)
     (λ next after.
     told-setting c.args.self.now new court r next xs refl (ap (λ (k : Checked). k.calls) c.self.view_is) ensures.opens ensures.follows heard
-    (subst (λ (s : Setting). HasTold r xs (an_event.Setting s)) (sym ensures.setting) (subst (HasTold r xs) c.in-Setting.is told)) after)
+    (subst (λ (m : Bool). HasTold r xs (an_event.Setting court.setting m)) (sym ensures.metadata)
+    (subst (λ (s : Setting). HasTold r xs (an_event.Setting s c.in-Setting.metadata)) (sym ensures.setting) (subst (HasTold r xs) c.in-Setting.is told))) after)
 
 pub returns-in-NoSetting-clause-heard : goal.returns-in-NoSetting-clause-heard
 returns-in-NoSetting-clause-heard c = λ r xs heard counted number told.

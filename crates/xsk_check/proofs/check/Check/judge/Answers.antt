@@ -17,4 +17,4 @@ unreachable-requires c =
 pub returns-clause-heard : goal.returns-clause-heard
 returns-clause-heard c = λ r xs heard counted number told next after.
     called c.args.self.now _ c.in-Some.court c.step.new.court r next xs c.args.line c.args.call (ap (λ (k : Checked). k.court) (sym c.self.view_is) ∙ c.in-Some.is) refl
-    (ap (λ (k : Checked). k.calls + 1) c.self.view_is) c.step.ensures.setting c.in-Ok.ensures.opens c.in-Ok.ensures.follows number heard told after
+    (ap (λ (k : Checked). k.calls + 1) c.self.view_is) c.step.ensures.setting c.step.ensures.metadata c.in-Ok.ensures.opens c.in-Ok.ensures.follows number heard told after

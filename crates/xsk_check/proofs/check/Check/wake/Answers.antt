@@ -11,4 +11,4 @@ unreachable-requires c =
 pub returns-clause-heard : goal.returns-clause-heard
 returns-clause-heard c = λ r xs heard counted number told next after.
     woken c.args.self.now _ c.in-Some.court c.wake.new.court r next xs c.args.line c.args.wakeup (ap (λ (k : Checked). k.court) (sym c.self.view_is) ∙ c.in-Some.is) refl
-    (ap (λ (k : Checked). k.calls) c.self.view_is) c.wake.ensures.setting c.wake.ensures.opens c.wake.ensures.follows number heard told after
+    (ap (λ (k : Checked). k.calls) c.self.view_is) c.wake.ensures.setting c.wake.ensures.metadata c.wake.ensures.opens c.wake.ensures.follows number heard told after

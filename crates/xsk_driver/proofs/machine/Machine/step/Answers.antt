@@ -1,12 +1,12 @@
 use Rattle.std.proofs.Common.{refl}
-use Rattle.xsk_model.specs.Asks.{joined_call}
+use Rattle.xsk_turns.specs.Stepping.{joined_ask}
 use Rattle.xsk_driver.proofs.Bounces.{sends_other, sends_bounced, quiet_by}
 use Rattle.xsk_driver.proofs.machine.Machine.step.Goals as goal
 
 pub returns-in-TellBounced-clause-sends_first : goal.returns-in-TellBounced-clause-sends_first
 returns-in-TellBounced-clause-sends_first c none =
-    let gone = c.go_on_from_wait.ensures in
-    let call = joined_call c.go_on_from_wait.new.asked c.go_on_from_wait.new.items in
+    let gone = c.go_on_by.ensures in
+    let act = joined_ask c.go_on_by.new.asked c.go_on_by.new.items in
     let first = gone.sends_first none in
     sends_bounced c.args.self.now c.go_on_from_wait.new.self (record c.go_on_from_wait.new.self { outbox = c.add.new.self }) call c.current-packet.result.now c.in-TellBounced.is gone.counts refl c.current-packet.ensures.packet
     (quiet_by c.args.self.now c.go_on_from_wait.new.self call first.0 first.1) c.add.ensures.sends
@@ -18,15 +18,15 @@ returns-in-TellBounced-clause-sends c r same =
     sends_bounced c.args.self.now c.go_on_from_wait.new.self (record c.go_on_from_wait.new.self { outbox = c.add.new.self }) call c.current-packet.result.now c.in-TellBounced.is gone.counts refl c.current-packet.ensures.packet
     (gone.sends r same) c.add.ensures.sends
 
-pub returns-in_default-wait-clause-sends_first : goal.returns-in_default-wait-clause-sends_first
-returns-in_default-wait-clause-sends_first c none =
-    let gone = c.go_on_from_wait.ensures in
-    let call = joined_call c.go_on_from_wait.new.asked c.go_on_from_wait.new.items in
+pub returns-in_default-clause-sends_first : goal.returns-in_default-clause-sends_first
+returns-in_default-clause-sends_first c none =
+    let gone = c.go_on_by.ensures in
+    let act = joined_ask c.go_on_by.new.asked c.go_on_by.new.items in
     let first = gone.sends_first none in
-    sends_other c.args.self.now c.go_on_from_wait.new.self call c.in_default-wait.not-TellBounced gone.counts (quiet_by c.args.self.now c.go_on_from_wait.new.self call first.0 first.1)
+    sends_other c.args.self.now c.go_on_by.new.self act c.in_default.not-TellBounced gone.counts (quiet_by c.args.self.now c.go_on_by.new.self act first.0 first.1)
 
-pub returns-in_default-wait-clause-sends : goal.returns-in_default-wait-clause-sends
-returns-in_default-wait-clause-sends c r same =
-    let gone = c.go_on_from_wait.ensures in
-    let call = joined_call c.go_on_from_wait.new.asked c.go_on_from_wait.new.items in
-    sends_other c.args.self.now c.go_on_from_wait.new.self call c.in_default-wait.not-TellBounced gone.counts (gone.sends r same)
+pub returns-in_default-clause-sends : goal.returns-in_default-clause-sends
+returns-in_default-clause-sends c r same =
+    let gone = c.go_on_by.ensures in
+    let act = joined_ask c.go_on_by.new.asked c.go_on_by.new.items in
+    sends_other c.args.self.now c.go_on_by.new.self act c.in_default.not-TellBounced gone.counts (gone.sends r same)

@@ -17,4 +17,5 @@ returns-clause-notes c n lines now =
     let lent : c.self.inside.tallies.items ≡ c.args.self.now.tallies = search rules in
     let tallies : c.count.new.tallies.items ≡ counted s c.args.line c.args.ring c.args.self.now.tallies Refused = c.count.ensures ∙ ap (λ ts. counted s c.args.line c.args.ring ts Refused) lent in
     let peeks : c.self.inside.peeks.items ≡ c.args.self.now.peeks = search rules in
-    notes_refused s c.args.self.now _ c.args.line c.args.ring n c.args.answer lines c.requires told.0 told.1 (search rules) (noted_is _ _ _ _ tallies peeks) now
+    let metadata : c.self.inside.metadata ≡ c.args.self.now.metadata = search rules in
+    notes_refused s c.args.self.now _ c.args.line c.args.ring n c.args.answer lines c.requires told.0 told.1 (search rules) (noted_is _ _ _ _ _ _ tallies peeks metadata) now

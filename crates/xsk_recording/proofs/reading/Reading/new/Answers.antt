@@ -14,7 +14,7 @@ returns c = record {
   read = refl;
   shows = record {
     next = ap (λ (h : Header). h.next) c.new.ensures;
-    setting = ap (λ (h : Header). h.setting) c.new.ensures;
+    header = c.new.ensures;
     time = refl;
     lines = refl;
   };
