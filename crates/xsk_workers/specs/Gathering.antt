@@ -3,6 +3,7 @@ use Rattle.std.specs.Prelude.{◌≡◌, ℕ, ◌+◌, ◌<◌, ◌≤◌, Optio
 use Rattle.xsk_model.specs.Config.{callers_of}
 use Rattle.xsk_model.specs.Entry.{Told, own}
 use Rattle.xsk_model.specs.declared.call.Act.TheVariants.{Ended}
+use Rattle.xsk_turns.specs.Statistics.{capped}
 use Rattle.xsk_turns.specs.Hands.{IsWholeRunOf}
 use Rattle.xsk_turns.specs.Workers.{Setting, input_of}
 use Rattle.xsk_machine.specs.Acts.{sent_along}
@@ -81,3 +82,10 @@ abbrev pub calls_in : ℕ → List (Option Holder) → ℕ
 calls_in n [] = 0
 calls_in n (None ∷ passes) = calls_in (n + 1) passes
 calls_in n (Some p ∷ passes) = length (own n p.view.seen) + calls_in (n + 1) passes
+
+-- all passes are given back, and what was kept and how many calls were made is what it should be by what they saw
+pub record IsGathered (b : Board) (hands : ℕ) (s : Setting) (passes : List (Option Holder)) (sent : List (List (List ℕ))) (figures : List DriverFigures) (calls : ℕ) : Type 0 where
+  pub given : AreGiven b hands s (callers_of b.setup.config) passes
+  pub are_sent : AreSent s (callers_of b.setup.config) passes sent
+  pub are_figures : AreFiguresOf s (callers_of b.setup.config) passes figures
+  pub are_calls : calls ≡ capped (calls_in 0 passes)

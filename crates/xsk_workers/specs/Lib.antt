@@ -1,5 +1,6 @@
 pub mod Crew
 pub mod Shown
+pub mod Terms
 pub mod Parking
 pub mod Hands
 pub mod Sharing

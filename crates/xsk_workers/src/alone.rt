@@ -1,11 +1,12 @@
-//! A caller to its end, in its thread.
+//! A caller to its end, in its thread. Each turn stands behind the gate, since `turn` takes a [`Passed`]; its own thread sleeps only where
+//! the turn told that it is parked (`specs/Parking.antt`). How long it waits else is in no contract.
 ghost use Rattle.std.specs.Prelude.{◌≡◌};
 ghost use Rattle.xsk_workers.specs.Crew.{IsSeatOn};
 
 use crate::pace::Pace;
 use crate::passing::Passed;
 use crate::patience::{Patience, Waiting};
-use crate::runner::Rests;
+use crate::turns::Rests;
 use std::sync::Wait;
 use xsk_gate::Gate;
 use xsk_table::Shared;

@@ -1,4 +1,4 @@
-//! What came of a hand's steps.
+//! What came of a hand's steps (`specs/Visits.antt`).
 ghost use Rattle.std.specs.Prelude.{◌≡◌};
 ghost use Rattle.xsk_workers.specs.Visits.{came_of, together};
 

@@ -1,20 +1,34 @@
-//! All workers of a run in threads of their own.
+//! All workers of a run in threads of their own. Of one that comes back nothing is known but its seat, which is what is promised of it
+//! (`Handed`, `specs/Crew.antt`). The loop of starts stands in the scope's closure, since each type that goes to a thread owes there that
+//! it may be sent.
 ghost use Rattle.std.specs.Prelude.{◌≡◌, ℕ, ◌+◌, ◌≤◌, List, [], ◌++◌, map, All, vec_len, vec_capacity, IfOk};
 ghost use Rattle.xsk_table.specs.Held.{Board};
 ghost use Rattle.xsk_workers.specs.Crew.{Seat, IsSeatOn};
 ghost use denote.Param.Send.{IsSend, IsSync};
 
-use crate::runner::{Opens, Turns};
-use crate::running::{Handed, finish, start};
+use crate::by_turns::finish;
+use crate::patience::Patience;
+use crate::sharing::share_ends;
+use crate::turns::{Opens, Turns};
 use std::alloc::{AllocError, Global};
 use std::marker::Model;
 use std::snapshot::Snapshot;
 use std::sync::Wait;
 use std::sync::atomic::{AtomicU64, Ordering};
 use std::thread;
-use std::thread::{PromisedHandle, Scope, Threads};
+use std::thread::{Promise, PromisedHandle, Scope, Threads};
 use xsk_gate::Gate;
 use xsk_table::Shared;
+
+/// What is promised of a member that comes back from its thread: it is the caller of the same setting and table.
+#[derive(Drop)]
+struct Handed<W: Turns + Drop> {
+    member: Snapshot<W>,
+}
+
+impl<W: Turns + Drop> Promise<W> for Handed<W> {
+    ghost kept_by = { λ p w. W.seat w ≡ W.seat p.member.value };
+}
 
 /// Workers before they start, with room for them to come back to, which is taken before any of them starts.
 #[derive(Drop)]
@@ -94,6 +108,44 @@ fn gather<R: Threads + Wait + Sync, W: Turns + Drop + Send>(
         done.push_reserved(worker);
     }
     done
+}
+
+/// Runs a member to its end, or hands it back as it is where its number, and one more, is noted.
+fn start<R: Threads + Wait + Sync, W: Opens, G: Gate + Sync>(
+    rt: &R,
+    shared: &Shared,
+    gate: &G,
+    refused: &AtomicU64,
+    member: W,
+) -> W
+    requires { IsSeatOn shared.now (W.seat member) }
+    ensures { W.seat result ≡ W.seat member }
+{
+    if refused.load(Ordering::SeqCst) == u64::from(member.caller()) + 1 {
+        return member;
+    }
+    let patience = Patience::of_caller(rt, shared, member.caller());
+    let member = run_hands(rt, shared, gate, member);
+    member.run(rt, shared, gate, patience)
+}
+
+/// Has the hands of a member share its ends until all have ended, where it has several.
+fn run_hands<R: Threads + Wait + Sync, W: Opens, G: Gate + Sync>(
+    rt: &R,
+    shared: &Shared,
+    gate: &G,
+    member: W,
+) -> W
+    requires { IsSeatOn shared.now (W.seat member) }
+    ensures { W.seat result ≡ W.seat member }
+{
+    match member.open() {
+        Ok((ends, rest)) => {
+            let ends = share_ends(rt, shared, gate, W::wakers(&rest), W::plan(&rest), ends);
+            W::shut(rest, ends)
+        }
+        Err(member) => member,
+    }
 }
 
 /// Runs workers, each in a thread of its own where one can be had, and gives them back in their order.

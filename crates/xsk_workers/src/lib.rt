@@ -2,10 +2,13 @@
 #![tactic(auto)]
 
 mod alone;
+mod by_turns;
 mod came;
 mod context;
 mod crew;
+mod forwarding;
 mod hands;
+mod lanes;
 pub mod laws;
 mod member;
 mod pace;
@@ -14,13 +17,10 @@ mod passing;
 mod patience;
 mod pauses;
 mod plan;
-mod runner;
-mod running;
 mod seating;
 mod sharing;
 mod team;
+mod turns;
 mod worker;
-mod workers;
-mod works;
 
-pub use workers::{Outcome, forward};
+pub use forwarding::{Outcome, forward};

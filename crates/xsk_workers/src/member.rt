@@ -1,15 +1,16 @@
-//! A member of a crew: one machine, or an application by several hands.
+//! A member of a crew: one machine, or an application by several hands. What holds of it is what holds of either
+//! (`specs/Members.antt`).
 ghost use Rattle.std.specs.Prelude.{◌≡◌};
 
 use crate::alone::run_alone;
-use crate::context::Context;
+use crate::context::Verdicts;
 use crate::pace::Pace;
 use crate::parking::SideWakers;
 use crate::passing::Passed;
 use crate::patience::Patience;
 use crate::plan::{HandsPlan, Rest};
-use crate::runner::{Leaves, Opens, Rests, Runner, Turns};
 use crate::team::Team;
+use crate::turns::{Leaves, Opens, Rests, Turns};
 use std::sync::Wait;
 use xsk_gate::Gate;
 use xsk_machine::Collected;
@@ -54,34 +55,26 @@ impl<A: Turns, B: Turns> Turns for Member<A, B> {
     }
 }
 
-impl<A: Rests, B: Rests> Runner for Member<A, B> {
-    fn run<R: Wait, G: Gate>(self, rt: &R, shared: &Shared, gate: &G, patience: Patience) -> Self {
-        match self {
-            Member::One(worker) => Member::One(run_alone(rt, shared, gate, patience, worker)),
-            Member::Several(team) => Member::Several(run_alone(rt, shared, gate, patience, team)),
-        }
-    }
-}
-
-impl<'a, A: Rests, P: Context> Opens for Member<A, Team<'a, P>> {
+impl<'a, A: Rests, V: Verdicts> Opens for Member<A, Team<'a, V>> {
     ghost use Rattle.std.specs.Prelude.{◌≡◌};
     ghost use Rattle.xsk_shared_ends.specs.Shown.{Name, name_of};
-    ghost use Rattle.std.specs.Prelude.{option_map};
+    ghost use Rattle.std.specs.Prelude.{map, option_map};
     ghost use Rattle.xsk_workers.specs.Parking.{token_of};
     ghost use Rattle.xsk_workers.specs.Hands.{named_seat, team_seat, GoesWith, AreTokensOf};
     ghost use Rattle.xsk_workers.specs.Members.{either_seat};
+    ghost use Rattle.xsk_workers.specs.Terms.{setting_over};
 
     type Ends = Ends<'a>;
 
-    type Rest = Rest<P>;
+    type Rest = Rest<'a, V>;
 
-    ghost seat_by = { λ rest. named_seat (P.setting rest.place) };
+    ghost seat_by = { λ rest. named_seat (setting_over rest.source.terms V.verdicts) };
 
-    ghost goes_with = { λ rest. GoesWith (P.setting rest.place) rest.who rest.plan.pairs };
+    ghost goes_with = { λ rest. GoesWith (setting_over rest.source.terms V.verdicts) rest.who rest.plan.pairs };
 
-    ghost wakes = { λ rest. AreTokensOf (P.tokens rest.place) (P.setting rest.place).config rest.who };
+    ghost wakes = { λ rest. AreTokensOf (map token_of rest.source.wakers.now) (setting_over rest.source.terms V.verdicts).config rest.who };
 
-    fn open(self) -> Result<(Ends<'a>, Rest<P>), Self> {
+    fn open(self) -> Result<(Ends<'a>, Rest<'a, V>), Self> {
         match self {
             Member::One(worker) => Err(Member::One(worker)),
             Member::Several(team) => match team.open() {
@@ -91,22 +84,29 @@ impl<'a, A: Rests, P: Context> Opens for Member<A, Team<'a, P>> {
         }
     }
 
-    fn plan(rest: &Rest<P>) -> HandsPlan {
+    fn plan(rest: &Rest<'a, V>) -> HandsPlan {
         rest.plan
     }
 
-    fn wakers(rest: &Rest<P>) -> SideWakers<'_>
-        requires { (name : Name) × GoesWith (P.setting rest.now.place) rest.now.who rest.now.plan.pairs name }
-        ensures { AreTokensOf (P.tokens rest.now.place) (P.setting rest.now.place).config rest.now.who (option_map (λ waker. token_of waker.now) result.first) (option_map (λ waker. token_of waker.now) result.second) }
+    fn wakers<'b>(rest: &'b Rest<'a, V>) -> SideWakers<'b>
+        requires { (name : Name) × GoesWith (setting_over rest.now.source.terms V.verdicts) rest.now.who rest.now.plan.pairs name }
+        ensures { AreTokensOf (map token_of rest.now.source.wakers.now) (setting_over rest.now.source.terms V.verdicts).config rest.now.who (option_map (λ waker. token_of waker.now) result.first) (option_map (λ waker. token_of waker.now) result.second) }
     {
-        SideWakers::of(&rest.place, rest.plan.pairs)
+        rest.wakers()
     }
 
-    fn shut(rest: Rest<P>, ends: Ends<'a>) -> Self
-        requires { GoesWith (P.setting rest.place) rest.who rest.plan.pairs (name_of ends) }
-        ensures { either_seat A.seat team_seat result ≡ named_seat (P.setting rest.place) (name_of ends.entry) }
+    fn shut(rest: Rest<'a, V>, ends: Ends<'a>) -> Self
+        requires { GoesWith (setting_over rest.source.terms V.verdicts) rest.who rest.plan.pairs (name_of ends) }
+        ensures { either_seat A.seat team_seat result ≡ named_seat (setting_over rest.entry.source.terms V.verdicts) (name_of ends.entry) }
     {
         Member::Several(Team::new(rest, ends))
+    }
+
+    fn run<R: Wait, G: Gate>(self, rt: &R, shared: &Shared, gate: &G, patience: Patience) -> Self {
+        match self {
+            Member::One(worker) => Member::One(run_alone(rt, shared, gate, patience, worker)),
+            Member::Several(team) => Member::Several(run_alone(rt, shared, gate, patience, team)),
+        }
     }
 }
 

@@ -1,9 +1,9 @@
-//! What drivers sleep on, and what wakes them.
+//! What drivers sleep on, and what wakes them. The parker of a pair's driver and what wakes it have one token (`specs/Parking.antt`).
 ghost use Rattle.std.specs.Prelude.{◌≡◌, map, length, IfOk, if◌then◌else◌, option_map};
 ghost use Rattle.std.specs.List.{slice_get, slice_index};
 ghost use Rattle.xsk_workers.specs.Parking.{token_of, token_in};
 
-use crate::context::Context;
+use crate::context::{Source, Verdicts};
 use crossbeam_utils::sync::{Parker, Unparker};
 use std::alloc::{AllocError, Global};
 use xsk_model::Config;
@@ -40,13 +40,13 @@ pub(crate) struct SideWakers<'a> {
 
 impl<'a> SideWakers<'a> {
     /// What wakes the drivers of these pairs.
-    pub(crate) fn of<P: Context>(place: &'a P, pairs: [u32; 2]) -> SideWakers<'a>
-        ensures first { option_map (λ waker. token_of waker.now) result.first ≡ slice_get (P.tokens place.now) (slice_index pairs 0) }
-        ensures second { option_map (λ waker. token_of waker.now) result.second ≡ slice_get (P.tokens place.now) (slice_index pairs 1) }
+    pub(crate) fn of<V: Verdicts>(source: &'a Source<'_, V>, pairs: [u32; 2]) -> SideWakers<'a>
+        ensures first { option_map (λ waker. token_of waker.now) result.first ≡ slice_get (map token_of source.now.wakers.now) (slice_index pairs 0) }
+        ensures second { option_map (λ waker. token_of waker.now) result.second ≡ slice_get (map token_of source.now.wakers.now) (slice_index pairs 1) }
     {
         SideWakers {
-            first: place.waker(pairs[0]),
-            second: place.waker(pairs[1]),
+            first: source.waker(pairs[0]),
+            second: source.waker(pairs[1]),
         }
     }
 

@@ -1,4 +1,4 @@
-//! The gate, which a worker passes before each of its turns.
+//! The gate, which a worker passes before each of its turns: nothing else makes a [`Passed`].
 ghost use Rattle.std.specs.Prelude.{◌≡◌};
 
 use xsk_gate::Gate;

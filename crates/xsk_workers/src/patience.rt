@@ -1,4 +1,4 @@
-//! How long a worker waits behind a turn that moved nothing.
+//! How long a worker waits behind a turn that moved nothing. No contract says it: each number is measured (`docs/PERFORMANCE.md`).
 
 use crate::pauses::{Pauses, spin};
 use std::sync::Wait;

@@ -1,4 +1,5 @@
-//! Pauses of who waits for others: it spins, yields, and sleeps for a while.
+//! Pauses of who waits for others: it spins, yields, and sleeps for a while. It wakes by itself. No contract says how long a pause is:
+//! each number is measured (`docs/PERFORMANCE.md`).
 
 use std::sync::Wait;
 use std::thread::Parker;

@@ -1,4 +1,5 @@
-//! An application by several hands, as a member of a crew: the hands in threads, and then the last one.
+//! An application by several hands, as a member of a crew: its ends for the hands, and then the last one. It stays the application of its
+//! setting (`IsTeam`), and its calls are a whole split run once the last hand has ended (`TeamHasRun`).
 ghost use Rattle.std.specs.Prelude.{◌≡◌, length, IfOk, IfErr};
 ghost use Rattle.xsk_rings.specs.Rounds.{mine_of};
 ghost use Rattle.xsk_table.specs.View.{idle};
@@ -8,22 +9,22 @@ ghost use Rattle.xsk_shared_ends.specs.Last.{shown_of_ends};
 ghost use Rattle.xsk_shared_ends.specs.declared.last.Turned.TheVariants.{Ended};
 ghost use Rattle.xsk_workers.specs.Crew.{IsSeatOn};
 ghost use Rattle.xsk_workers.specs.Hands.{team_seat, TeamHasRun, GoesWith};
+ghost use Rattle.xsk_workers.specs.Terms.{setting_over};
 
-use crate::context::Context;
+use crate::context::Verdicts;
+use crate::lanes::Lanes;
 use crate::pace::Pace;
-use crate::parking::SideWakers;
 use crate::passing::Passed;
 use crate::pauses::Pauses;
 use crate::plan::Rest;
-use crate::runner::{Leaves, Rests, Turns};
-use crate::works::Works;
+use crate::turns::{Leaves, Rests, Turns};
 use std::marker::Model;
 use std::sync::Wait;
 use xsk_machine::Collected;
 use xsk_shared_ends::{Ends, LastHand, Step, Turned};
 use xsk_table::{Pass, Shared};
 
-impl<'a> Works for Ends<'a> {
+impl<'a> Lanes for Ends<'a> {
     ghost use Rattle.xsk_workers.specs.Hands.{IsNameOn, lanes_named, LaneCame, SideCame, MarksTold};
 
     ghost is_on = { IsNameOn };
@@ -57,28 +58,29 @@ impl<'a> Works for Ends<'a> {
 
 /// An application by several hands, as a caller of a setting: what its last hand has, and the rest.
 #[derive(Drop)]
-pub(crate) struct Team<'a, P: Context> {
+pub(crate) struct Team<'a, V: Verdicts> {
     last: LastHand<'a>,
-    rest: Rest<P>,
+    rest: Rest<'a, V>,
 }
 
-impl<'a, P: Context> Model for Team<'a, P> {
+impl<'a, V: Verdicts> Model for Team<'a, V> {
     ghost use Rattle.std.specs.Prelude.{◌≡◌};
     ghost use Rattle.xsk_workers.specs.Hands.{TeamShown, IsTeam, AreSides};
+    ghost use Rattle.xsk_workers.specs.Terms.{setting_over};
 
     ghost Value = { TeamShown };
 
-    ghost view = { λ t. record { setting = P.setting t.rest.place; last = t.last } };
+    ghost view = { λ t. record { setting = setting_over t.rest.source.terms V.verdicts; last = t.last } };
 
-    ghost invariant = { λ t. IsTeam (record { setting = P.setting t.rest.place; last = t.last }) × (t.rest.who ≡ t.last.pass.who)
-        × AreSides (P.setting t.rest.place).config t.rest.who t.rest.plan.pairs };
+    ghost invariant = { λ t. IsTeam (record { setting = setting_over t.rest.source.terms V.verdicts; last = t.last }) × (t.rest.who ≡ t.last.pass.who)
+        × AreSides (setting_over t.rest.source.terms V.verdicts).config t.rest.who t.rest.plan.pairs };
 }
 
-impl<'a, P: Context> Team<'a, P> {
+impl<'a, V: Verdicts> Team<'a, V> {
     /// The team of these ends, whose application is one of the setting.
-    pub(crate) fn new(rest: Rest<P>, ends: Ends<'a>) -> Team<'a, P>
-        requires { GoesWith (P.setting rest.place) rest.who rest.plan.pairs (name_of ends) }
-        ensures { result ≡ record { setting = P.setting rest.place; last = shown_of_ends ends.entry } }
+    pub(crate) fn new(rest: Rest<'a, V>, ends: Ends<'a>) -> Team<'a, V>
+        requires { GoesWith (setting_over rest.source.terms V.verdicts) rest.who rest.plan.pairs (name_of ends) }
+        ensures { result ≡ record { setting = setting_over rest.entry.source.terms V.verdicts; last = shown_of_ends ends.entry } }
     {
         ends.keeps();
         Team {
@@ -88,10 +90,10 @@ impl<'a, P: Context> Team<'a, P> {
     }
 
     /// The ends and the rest, while it has the ends.
-    pub(crate) fn open(self) -> Result<(Ends<'a>, Rest<P>), Team<'a, P>>
+    pub(crate) fn open(self) -> Result<(Ends<'a>, Rest<'a, V>), Team<'a, V>>
         ensures ends { IfOk result (λ parts. shown_of_ends parts.0 ≡ self.entry.last) }
-        ensures setting { IfOk result (λ parts. P.setting parts.1.place ≡ self.entry.setting) }
-        ensures goes { IfOk result (λ parts. GoesWith (P.setting parts.1.place) parts.1.who parts.1.plan.pairs (name_of parts.0)) }
+        ensures setting { IfOk result (λ parts. setting_over parts.1.source.terms V.verdicts ≡ self.entry.setting) }
+        ensures goes { IfOk result (λ parts. GoesWith (setting_over parts.1.source.terms V.verdicts) parts.1.who parts.1.plan.pairs (name_of parts.0)) }
         ensures back { IfErr result (λ team. team ≡ self.entry) }
     {
         let Team { last, rest } = self;
@@ -102,7 +104,7 @@ impl<'a, P: Context> Team<'a, P> {
     }
 }
 
-impl<'a, P: Context> Turns for Team<'a, P> {
+impl<'a, V: Verdicts> Turns for Team<'a, V> {
     ghost use Rattle.xsk_workers.specs.Hands.{team_seat, TeamHasRun};
 
     ghost seat = { team_seat };
@@ -124,20 +126,20 @@ impl<'a, P: Context> Turns for Team<'a, P> {
     fn turn(&mut self, shared: &Shared, _passed: Passed) -> Pace {
         let turned = self.last.turn(shared);
         if turned != Turned::Ended {
-            SideWakers::of(&self.rest.place, self.rest.plan.pairs).wake();
+            self.rest.wakers().wake();
         }
         Pace::of_last(turned)
     }
 }
 
-impl<'a, P: Context> Rests for Team<'a, P> {
+impl<'a, V: Verdicts> Rests for Team<'a, V> {
     /// It isn't parked, and only pauses.
     fn rest<R: Wait>(&self, rt: &R, pauses: &mut Pauses) {
         pauses.pause(rt);
     }
 }
 
-impl<'a, P: Context> Leaves for Team<'a, P> {
+impl<'a, V: Verdicts> Leaves for Team<'a, V> {
     ghost use Rattle.xsk_workers.specs.Members.{IsLeftOfTeam};
 
     ghost pass = { λ t. t.last.pass };

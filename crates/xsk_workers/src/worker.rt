@@ -1,23 +1,26 @@
-//! A worker: a machine with its pass, which runs to its end in any thread.
+//! A worker: a machine with its pass, which runs to its end in any thread. Its type keeps that no call is in flight and that the machine
+//! stands for just the calls that the pass has seen (`IsGoing`), so a turn is all that may touch either. A turn wakes the driver that its
+//! own call kicked, and no other, after that call (`woken_by`, `IsLastOf`).
 ghost use Rattle.std.specs.Prelude.{◌≡◌, ℕ, List, []};
 ghost use Rattle.xsk_model.specs.Entry.{own};
 ghost use Rattle.xsk_model.specs.Expected.{nothing};
 ghost use Rattle.xsk_model.specs.declared.call.Act.TheVariants.{Ended as HasEnded};
 ghost use Rattle.xsk_table.specs.View.{idle};
-ghost use Rattle.std.specs.Prelude.{Some, ◌↔◌, option_map};
+ghost use Rattle.std.specs.Prelude.{Some, ◌↔◌, map, option_map};
 ghost use Rattle.xsk_model.specs.declared.ask.Ask.TheVariants.{Look};
 ghost use Rattle.xsk_model.specs.declared.ask.Answer.TheVariants.{Old};
 ghost use Rattle.xsk_model.specs.declared.call.Mark.TheVariants.{Kick};
 ghost use Rattle.xsk_table.specs.Held.{Board};
 ghost use Rattle.xsk_workers.specs.Crew.{IsSeatOn};
 ghost use Rattle.xsk_workers.specs.Parking.{token_of, IsParkerOf, IsAsleep, IsLastOf, woken_by};
+ghost use Rattle.xsk_workers.specs.Terms.{setting_over};
 ghost use Rattle.xsk_workers.specs.declared.pace.Pace.TheVariants.{Parked, Ended};
 
-use crate::context::Context;
+use crate::context::{Source, Verdicts};
 use crate::pace::Pace;
 use crate::passing::Passed;
 use crate::pauses::Pauses;
-use crate::runner::{Leaves, Rests, Turns};
+use crate::turns::{Leaves, Rests, Turns};
 use crossbeam_utils::sync::{Parker, Unparker};
 use std::marker::Model;
 use std::sync::Wait;
@@ -30,38 +33,45 @@ use xsk_umem::Batch;
 /// A machine that runs over its pass, with what it asks next, as a caller of a setting, and the number of its calls, which
 /// stays at 2^64 - 1. A driver has what it sleeps on, where drivers sleep. Contracts see setting, pass and the next call.
 #[derive(Drop)]
-pub(crate) struct Worker<M: Machine + Drop, P: Context> {
+pub(crate) struct Worker<'a, M: Machine + Drop, V: Verdicts> {
     machine: M,
     ask: Option<Ask>,
     items: Batch,
     pass: Pass,
-    place: P,
+    source: Source<'a, V>,
     parker: Option<Parker>,
     calls: u64,
 }
 
-impl<M: Machine + Drop, P: Context> Model for Worker<M, P> {
+impl<'a, M: Machine + Drop, V: Verdicts> Model for Worker<'a, M, V> {
     ghost use Rattle.xsk_workers.specs.Shown.{WorkerShown, IsGoing, AreCounted};
-    ghost use Rattle.xsk_workers.specs.Parking.{IsParkerOf};
+    ghost use Rattle.std.specs.Prelude.{map};
+    ghost use Rattle.xsk_workers.specs.Parking.{IsParkerOf, token_of};
+    ghost use Rattle.xsk_workers.specs.Terms.{setting_over};
 
     ghost Value = { WorkerShown };
 
-    ghost view = { λ w. record { setting = P.setting w.place; pass = w.pass; next = w.ask } };
+    ghost view = { λ w. record { setting = setting_over w.source.terms V.verdicts; pass = w.pass; next = w.ask } };
 
-    ghost invariant = { λ w. IsGoing M.stands (M.expected w.machine) (P.setting w.place) w.machine w.ask w.items w.pass × AreCounted w.calls w.pass
-        × IsParkerOf (P.tokens w.place) w.pass.who w.parker };
+    ghost invariant = { λ w. IsGoing M.stands (M.expected w.machine) (setting_over w.source.terms V.verdicts) w.machine w.ask w.items w.pass × AreCounted w.calls w.pass
+        × IsParkerOf (map token_of w.source.wakers.now) w.pass.who w.parker };
 }
 
-impl<M: Machine + Drop, P: Context> Worker<M, P> {
+impl<'a, M: Machine + Drop, V: Verdicts> Worker<'a, M, V> {
     ghost use Rattle.xsk_workers.specs.Shown.{HasRun, AreCounted};
 
     /// A new machine of a caller, with the caller's pass, with which no call was made, and its parker.
-    pub(crate) fn new(place: P, machine: M, pass: Pass, parker: Option<Parker>) -> Worker<M, P>
+    pub(crate) fn new(
+        source: Source<'a, V>,
+        machine: M,
+        pass: Pass,
+        parker: Option<Parker>,
+    ) -> Worker<'a, M, V>
         requires expected { M.expected machine ≡ nothing }
-        requires pass { (pass.view.flight ≡ idle) × (pass.view.seen ≡ []) × (pass.view.setup.config ≡ (P.setting place).config) }
-        requires machine { M.is_new (P.setting place) pass.who machine }
-        requires parker { IsParkerOf (P.tokens place) pass.who parker }
-        ensures setting { result.setting ≡ P.setting place }
+        requires pass { (pass.view.flight ≡ idle) × (pass.view.seen ≡ []) × (pass.view.setup.config ≡ (setting_over source.terms V.verdicts).config) }
+        requires machine { M.is_new (setting_over source.terms V.verdicts) pass.who machine }
+        requires parker { IsParkerOf (map token_of source.wakers.now) pass.who parker }
+        ensures setting { result.setting ≡ setting_over source.entry.terms V.verdicts }
         ensures pass { result.pass ≡ pass }
     {
         let mut machine = machine;
@@ -73,7 +83,7 @@ impl<M: Machine + Drop, P: Context> Worker<M, P> {
             ask,
             items,
             pass,
-            place,
+            source,
             parker,
             calls: 0,
         }
@@ -81,10 +91,10 @@ impl<M: Machine + Drop, P: Context> Worker<M, P> {
 
     /// The machine and the pass of a worker, and the number of its calls.
     pub(crate) fn into_parts(self) -> (M, Pass, u64)
-        ensures pass { result.1 ≡ self.pass }
-        ensures rests { self.pass.view.flight ≡ idle }
-        ensures stands { HasRun self → M.stands self.setting self.pass.who result.0 HasEnded (own self.pass.who self.pass.view.seen) }
-        ensures calls { AreCounted result.2 self.pass }
+        ensures pass { result.1 ≡ self.entry.pass }
+        ensures rests { self.entry.pass.view.flight ≡ idle }
+        ensures stands { HasRun self.entry → M.stands self.entry.setting self.entry.pass.who result.0 HasEnded (own self.entry.pass.who self.entry.pass.view.seen) }
+        ensures calls { AreCounted result.2 self.entry.pass }
     {
         let Worker {
             machine,
@@ -96,7 +106,7 @@ impl<M: Machine + Drop, P: Context> Worker<M, P> {
     }
 }
 
-impl<M: Machine + Drop, P: Context> Turns for Worker<M, P> {
+impl<'a, M: Machine + Drop, V: Verdicts> Turns for Worker<'a, M, V> {
     ghost use Rattle.xsk_workers.specs.Shown.{seat_of, HasRun};
 
     ghost seat = { seat_of };
@@ -131,7 +141,7 @@ impl<M: Machine + Drop, P: Context> Turns for Worker<M, P> {
         self.machine
             .step(Some(answer), &mut self.items, &mut self.ask);
         end_turn(
-            &self.place,
+            &self.source,
             &self.pass,
             self.pass.caller(),
             ask,
@@ -142,7 +152,7 @@ impl<M: Machine + Drop, P: Context> Turns for Worker<M, P> {
     }
 }
 
-impl<M: Machine + Drop, P: Context> Rests for Worker<M, P> {
+impl<'a, M: Machine + Drop, V: Verdicts> Rests for Worker<'a, M, V> {
     fn rest<R: Wait>(&self, rt: &R, pauses: &mut Pauses) {
         match &self.parker {
             Some(parker) if pauses.has_spun() => parker.park(rt),
@@ -151,7 +161,7 @@ impl<M: Machine + Drop, P: Context> Rests for Worker<M, P> {
     }
 }
 
-impl<'a, P: Context> Leaves for Worker<AnyWorker<'a>, P> {
+impl<'a, V: Verdicts> Leaves for Worker<'a, AnyWorker<'a>, V> {
     ghost use Rattle.xsk_machine.specs.Workers.{Stands};
     ghost use Rattle.xsk_workers.specs.Members.{IsLeftOfWorker};
 
@@ -168,8 +178,8 @@ impl<'a, P: Context> Leaves for Worker<AnyWorker<'a>, P> {
 
 /// Wakes the driver that a caller's last call of so many items has kicked, and tells what came of the call, where this is its next.
 /// Only a Swap kicks, and it always moves something: so no other call is asked whether it kicks.
-fn end_turn<P: Context>(
-    place: &P,
+fn end_turn<V: Verdicts>(
+    source: &Source<'_, V>,
     pass: &Pass,
     who: u32,
     ask: Ask,
@@ -183,7 +193,7 @@ fn end_turn<P: Context>(
 {
     match ask {
         Ask::Swap(..) => {
-            wake(place, pass, ask);
+            wake(source, pass, ask);
             Pace::Moved
         }
         Ask::Submit(_) => Pace::Put(count),
@@ -192,20 +202,20 @@ fn end_turn<P: Context>(
 }
 
 /// Wakes the driver that a caller's last call has kicked.
-fn wake<P: Context>(place: &P, pass: &Pass, ask: Ask)
+fn wake<V: Verdicts>(source: &Source<'_, V>, pass: &Pass, ask: Ask)
     requires { IsLastOf pass.now ask }
 {
-    if let Some(waker) = waker_for(place, ask) {
+    if let Some(waker) = waker_for(source, ask) {
         waker.unpark();
     }
 }
 
 /// What wakes the driver that a call kicks.
-fn waker_for<P: Context>(place: &P, ask: Ask) -> Option<&Unparker>
-    ensures { option_map (λ waker. token_of waker.now) result ≡ woken_by (P.tokens place.now) ask }
+fn waker_for<'a, V: Verdicts>(source: &'a Source<'_, V>, ask: Ask) -> Option<&'a Unparker>
+    ensures { option_map (λ waker. token_of waker.now) result ≡ woken_by (map token_of source.now.wakers.now) ask }
 {
     match ask {
-        Ask::Swap(Mark::Kick(pair), 1) => place.waker(pair),
+        Ask::Swap(Mark::Kick(pair), 1) => source.waker(pair),
         _ => None,
     }
 }

@@ -4,7 +4,8 @@ use Rattle.std.specs.Vec.Iter.{into_iter_items, into_iter_len, into_iter_steps}
 use Rattle.xsk_model.specs.Config.{callers_of}
 use Rattle.xsk_turns.specs.Workers.{Setting}
 use Rattle.xsk_table.specs.Held.{Holder, new_pass}
-use Rattle.xsk_machine.specs.Workers.{AreNew, IsNew, IsFreshDriver, setting_by}
+use Rattle.xsk_machine.specs.Workers.{AreNew, IsNew, IsFreshDriver}
+use Rattle.xsk_workers.specs.Terms.{setting_over}
 use Rattle.xsk_machine.specs.declared.worker.AnyWorker.TheVariants.{Driver}
 use Rattle.xsk_driver.specs.Shown.{Shown}
 use Rattle.xsk_machine.proofs.Making.{next_new, later_new}
@@ -24,9 +25,9 @@ pub loop-who-init : goal.loop-who-init
 loop-who-init g c = (
   subst (AreTaken c.args.shared.now 0) (sym c.requires.passes) (taken_none c.args.shared.now),
   λ hands. ap (map member_seat) c.requires.none,
-  subst (AreParkersFrom (map token_of c.args.place.wakers.now) 0) (sym c.into_iter-parkers.ensures.rest) (all_parkers (map token_of c.args.place.wakers.now) c.args.parkers.items c.requires.parkers),
-  subst (AreNew (setting_by c.args.place.config.now c.args.place.wire c.args.place.manner c.args.place.packets.now g.V.Verdicts.verdicts) 0) (sym c.into_iter-drivers.ensures.rest) c.requires.new,
-  (let count : length (into_iter_items c.into_iter-drivers.result) ≡ length c.args.place.config.now.pairs = ap length c.into_iter-drivers.ensures.rest ∙ c.requires.count in omega (arith, count)),
+  subst (AreParkersFrom (map token_of c.args.source.wakers.now) 0) (sym c.into_iter-parkers.ensures.rest) (all_parkers (map token_of c.args.source.wakers.now) c.args.parkers.items c.requires.parkers),
+  subst (AreNew (setting_over c.args.source.terms g.V.Verdicts.verdicts) 0) (sym c.into_iter-drivers.ensures.rest) c.requires.new,
+  (let count : length (into_iter_items c.into_iter-drivers.result) ≡ length c.args.source.terms.config.now.pairs = ap length c.into_iter-drivers.ensures.rest ∙ c.requires.count in omega (arith, count)),
   ap length c.requires.none,
   refl,
 )
@@ -50,7 +51,7 @@ seat_alone-member-requires-clause-pass g c =
 
 pub seat_alone-member-requires-clause-parker : goal.seat_alone-member-requires-clause-parker
 seat_alone-member-requires-clause-parker g c =
-    let tokens = map token_of c.args.place.wakers.now in
+    let tokens = map token_of c.args.source.wakers.now in
     let who : c.loop-who.who ≡ c.in-Some.pass.who = sym (ap (λ (p : Holder). p.who) (new g c)) in
     subst (λ (k : ℕ). IsParkerOf tokens k c.next-in-loop-who.result) who
     (first_parker tokens c.loop-who.who (into_iter_items c.loop-who.parkers) (into_iter_items c.next-in-loop-who.new.self) c.next-in-loop-who.result c.next-in-loop-who.ensures.items (none_next g c) c.loop-who.invariant.2)
@@ -58,14 +59,14 @@ seat_alone-member-requires-clause-parker g c =
 -- the driver is the caller's new one
 pub seat_alone-member-requires-clause-expected : goal.seat_alone-member-requires-clause-expected
 seat_alone-member-requires-clause-expected g c =
-    let s : Setting = setting_by c.args.place.config.now c.args.place.wire c.args.place.manner c.args.place.packets.now g.V.Verdicts.verdicts in
+    let s : Setting = setting_over c.args.source.terms g.V.Verdicts.verdicts in
     let fresh : IfSome c.next.result (IsFreshDriver s c.loop-who.who) =
     next_new s c.loop-who.who (into_iter_items c.loop-who.drivers) (into_iter_items c.next.new.self) c.next.result c.next.ensures.items c.loop-who.invariant.3 in
     (subst (λ (d : Option Shown). IfSome d (IsFreshDriver s c.loop-who.who)) c.in-Some-next.is fresh).expected
 
 pub seat_alone-member-requires-clause-machine : goal.seat_alone-member-requires-clause-machine
 seat_alone-member-requires-clause-machine g c =
-    let s : Setting = setting_by c.args.place.config.now c.args.place.wire c.args.place.manner c.args.place.packets.now g.V.Verdicts.verdicts in
+    let s : Setting = setting_over c.args.source.terms g.V.Verdicts.verdicts in
     let who : c.loop-who.who ≡ c.in-Some.pass.who = sym (ap (λ (p : Holder). p.who) (new g c)) in
     let fresh : IfSome c.next.result (IsFreshDriver s c.loop-who.who) =
     next_new s c.loop-who.who (into_iter_items c.loop-who.drivers) (into_iter_items c.next.new.self) c.next.result c.next.ensures.items c.loop-who.invariant.3 in
@@ -74,8 +75,8 @@ seat_alone-member-requires-clause-machine g c =
 pub loop-who-preserved : goal.loop-who-preserved
 loop-who-preserved g c =
     let b = c.args.shared.now in
-    let s : Setting = setting_by c.args.place.config.now c.args.place.wire c.args.place.manner c.args.place.packets.now g.V.Verdicts.verdicts in
-    let tokens = map token_of c.args.place.wakers.now in
+    let s : Setting = setting_over c.args.source.terms g.V.Verdicts.verdicts in
+    let tokens = map token_of c.args.source.wakers.now in
     let who = c.loop-who.who in
     let below : who < callers_of b.setup.config = search rules in
     let driver : who < length s.config.pairs = search rules in

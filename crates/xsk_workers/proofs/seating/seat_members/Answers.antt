@@ -3,7 +3,7 @@ use Rattle.std.specs.List.{range_with_len}
 use Rattle.xsk_model.specs.Config.{callers_of}
 use Rattle.xsk_turns.specs.Workers.{Setting}
 use Rattle.xsk_table.specs.Held.{Holder, new_pass}
-use Rattle.xsk_machine.specs.Workers.{setting_by}
+use Rattle.xsk_workers.specs.Terms.{setting_over}
 use Rattle.xsk_workers.specs.Shown.{seat_with, seat_at}
 use Rattle.xsk_workers.specs.Members.{member_seat}
 use Rattle.xsk_workers.specs.Gathering.{AreTaken}
@@ -14,14 +14,14 @@ use Rattle.xsk_workers.proofs.seating.seat_members.Goals as goal
 pub loop-who-init : goal.loop-who-init
 loop-who-init g c =
     let b = c.args.shared.now in
-    let s : Setting = setting_by c.args.place.config.now c.args.place.wire c.args.place.manner c.args.place.packets.now g.V.Verdicts.verdicts in
+    let s : Setting = setting_over c.args.source.terms g.V.Verdicts.verdicts in
     let ms = c.seat_drivers.new.members.items in
-    let pairs : length c.args.place.config.now.pairs ≡ length c.pairs.result.now = sym (ap length c.pairs.ensures.value) in
-    let seats : map member_seat ms ≡ map (seat_at c.args.hands s b) (range_with_len 0 (length c.pairs.result.now)) =
-    subst (λ (n : ℕ). map member_seat ms ≡ map (seat_at c.args.hands s b) (range_with_len 0 n)) pairs (c.seat_drivers.ensures.seats c.args.hands) in (
+    let pairs : length c.args.source.terms.config.now.pairs ≡ length c.pairs.result.now = sym (ap length c.pairs.ensures.value) in
+    let seats : map member_seat ms ≡ map (seat_at c.args.source.terms.hands s b) (range_with_len 0 (length c.pairs.result.now)) =
+    subst (λ (n : ℕ). map member_seat ms ≡ map (seat_at c.args.source.terms.hands s b) (range_with_len 0 n)) pairs (c.seat_drivers.ensures.seats c.args.source.terms.hands) in (
       subst (λ (n : ℕ). AreTaken b n c.seat_drivers.new.passes) pairs c.seat_drivers.ensures.taken,
       seats,
-      seated_count c.args.hands s b (length c.pairs.result.now) ms seats,
+      seated_count c.args.source.terms.hands s b (length c.pairs.result.now) ms seats,
       omega (arith, pairs),
       omega (arith, c.seat_drivers.ensures.room, c.in_ok-members.ensures.capacity, c.callers-callers.ensures),
     )
@@ -36,8 +36,8 @@ seat_app-requires-clause-unused g c =
 pub loop-who-preserved : goal.loop-who-preserved
 loop-who-preserved g c =
     let b = c.args.shared.now in
-    let hands = c.args.hands in
-    let s : Setting = setting_by c.args.place.config.now c.args.place.wire c.args.place.manner c.args.place.packets.now g.V.Verdicts.verdicts in
+    let hands = c.args.source.terms.hands in
+    let s : Setting = setting_over c.args.source.terms g.V.Verdicts.verdicts in
     let who = c.loop-who.who in
     let below : who < callers_of b.setup.config = search rules in
     let is : c.in-Some.pass ≡ new_pass b who = is_new_pass b who c.loop-who.passes c.in-Some.pass below c.loop-who.invariant.0 (search rules) in

@@ -9,7 +9,7 @@ use Rattle.xsk_workers.proofs.sharing.join_all.Goals as goal
 pub loop-handle-preserved : goal.loop-handle-preserved
 loop-handle-preserved g c =
     let was = c.loop-handle.invariant in
-    let lock = c.args.room.now.lock.now in
+    let lock = c.args.common.now.lock.now in
     let h = c.in-Some.handle in
     let left = into_iter_items c.loop-handle.handle-iterator in
     let rest = into_iter_items c.next.new.self in
@@ -23,7 +23,7 @@ loop-handle-preserved g c =
 pub join-requires-clause-belongs : goal.join-requires-clause-belongs
 join-requires-clause-belongs g c =
     let was = c.loop-handle.invariant in
-    let lock = c.args.room.now.lock.now in
+    let lock = c.args.common.now.lock.now in
     let left = into_iter_items c.loop-handle.handle-iterator in
     let first : left ≡ c.in-Some.handle ∷ into_iter_items c.next.new.self = search rules in
     let of : c.in-Some.handle.promise.lock.value ≡ lock = All-first (λ x. x.promise.lock.value ≡ lock) c.in-Some.handle left (into_iter_items c.next.new.self) first was.lock in
@@ -33,4 +33,4 @@ pub returns-clause-all : goal.returns-clause-all
 returns-clause-all g c =
     let left = into_iter_items c.loop-handle.handle-iterator in
     let none : left ≡ [] = nil_from_length left (let zero : into_iter_len c.loop-handle.handle-iterator ≡ 0 = c.in-None.ensures.steps.0 in search (rules, zero)) in
-    all_joined c.args.room.now.lock.now c.loop-handle.own _ (ap (map (λ x. x.promise.hand.value)) none) c.loop-handle.invariant.all
+    all_joined c.args.common.now.lock.now c.loop-handle.own _ (ap (map (λ x. x.promise.hand.value)) none) c.loop-handle.invariant.all

@@ -5,6 +5,6 @@ use Rattle.xsk_workers.proofs.sharing.join_all.Given as goal
 
 abbrev pub invariant-loop-handle : goal.invariant-loop-handle
 invariant-loop-handle g l = record {
-  all : AreAll l.room.lock.now l.own [] (map (λ h. h.promise.hand.value) (into_iter_items l.handle-iterator));
-  lock : All (λ h. h.promise.lock.value ≡ l.room.lock.now) (into_iter_items l.handle-iterator);
+  all : AreAll l.common.lock.now l.own [] (map (λ h. h.promise.hand.value) (into_iter_items l.handle-iterator));
+  lock : All (λ h. h.promise.lock.value ≡ l.common.lock.now) (into_iter_items l.handle-iterator);
 }

@@ -2,6 +2,7 @@ use Rattle.std.proofs.Common.{◌∙◌, ap, subst, sym}
 use Rattle.xsk_workers.specs.Crew.{IsSeatOn}
 use Rattle.xsk_workers.specs.Hands.{team_seat}
 use Rattle.xsk_workers.specs.Members.{either_seat}
+use Rattle.xsk_workers.specs.Terms.{setting_over}
 use Rattle.xsk_workers.proofs.Sitting.{opened_seat, opened_on}
 use Rattle.xsk_workers.proofs.member.MemberTeamOpens.open.Goals as goal
 
@@ -10,7 +11,7 @@ returns-in-One-clause-back g c = sym (ap (either_seat g.A.Turns.seat team_seat) 
 
 pub returns-in-Ok-clause-seat : goal.returns-in-Ok-clause-seat
 returns-in-Ok-clause-seat g c =
-    opened_seat (g.P.Context.setting c.in-Ok.parts.1.place) c.in-Ok.parts.0 c.in-Several.team c.in-Ok.ensures.ends c.in-Ok.ensures.setting
+    opened_seat (setting_over c.in-Ok.parts.1.source.terms g.V.Verdicts.verdicts) c.in-Ok.parts.0 c.in-Several.team c.in-Ok.ensures.ends c.in-Ok.ensures.setting
     ∙ sym (ap (either_seat g.A.Turns.seat team_seat) c.in-Several.is)
 
 pub returns-in-Ok-clause-on : goal.returns-in-Ok-clause-on

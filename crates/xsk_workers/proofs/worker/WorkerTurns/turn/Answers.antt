@@ -1,4 +1,4 @@
-use Rattle.std.proofs.Common.{◌≡◌, ◌↔◌, ℕ, Some, refl, sym, subst}
+use Rattle.std.proofs.Common.{◌≡◌, ◌↔◌, ℕ, Some, refl, sym, subst, map}
 use Rattle.xsk_model.specs.Asks.{joined_call, joined_reply}
 use Rattle.xsk_model.specs.Entry.{own}
 use Rattle.xsk_model.specs.declared.ask.Ask.TheVariants.{Look}
@@ -6,8 +6,9 @@ use Rattle.xsk_model.specs.declared.ask.Answer.TheVariants.{Old}
 use Rattle.xsk_model.specs.declared.call.Mark.TheVariants.{Kick}
 use Rattle.xsk_workers.specs.Crew.{IsSeatOn}
 use Rattle.xsk_workers.specs.Shown.{WorkerShown, seat_of}
-use Rattle.xsk_workers.specs.Parking.{IsParkerOf}
+use Rattle.xsk_workers.specs.Parking.{IsParkerOf, token_of}
 use Rattle.xsk_workers.specs.declared.pace.Pace.TheVariants.{Parked}
+use Rattle.xsk_workers.specs.Terms.{setting_over}
 use Rattle.xsk_workers.proofs.Sleeping.{sleeps, slept}
 use Rattle.xsk_workers.proofs.Going.{may_ask, has_asked, stood, may_come, comes, goes_on, one_more}
 use Rattle.xsk_workers.proofs.worker.WorkerTurns.turn.Goals as goal
@@ -29,7 +30,7 @@ step-requires-clause-comes g c =
 
 pub invariant_of-self : goal.invariant_of-self
 invariant_of-self g c =
-    let s = g.P.Context.setting c.self.inside.place in
+    let s = setting_over c.self.inside.source.terms g.V.Verdicts.verdicts in
     let p = c.self.inside.pass in
     let ask = c.in-Some.ask in
     let call = joined_call ask c.self.inside.items in
@@ -43,7 +44,7 @@ invariant_of-self g c =
           (stood g.M.Machine.stands (g.M.Machine.expected c.self.inside.machine) s c.self.inside.machine c.self.inside.ask c.self.inside.items p going ask c.in-Some.is) refl
           (may_come g.M.Machine.stands (g.M.Machine.expected c.self.inside.machine) s c.self.inside.machine c.self.inside.ask c.self.inside.items p going ask c.in-Some.is c.serve-answer.new.self reply served)),
       one_more p call reply c.serve-answer.new.self c.self.inside.calls c.saturating_add-self-inside.result c.self.invariant.1 served c.saturating_add-self-inside.ensures,
-      subst (λ (who : ℕ). IsParkerOf (g.P.Context.tokens c.self.inside.place) who c.self.inside.parker) (sym served.who) c.self.invariant.2,
+      subst (λ (who : ℕ). IsParkerOf (map token_of c.self.inside.source.wakers.now) who c.self.inside.parker) (sym served.who) c.self.invariant.2,
     )
 
 pub returns-clause-parked : goal.returns-clause-parked

@@ -9,7 +9,7 @@ use Rattle.xsk_workers.proofs.sharing.fn.run_all.scope.Goals as goal
 
 pub loop-hand-init : goal.loop-hand-init
 loop-hand-init g c =
-    let lock = c.captures.room.now.lock.now in
+    let lock = c.captures.common.now.lock.now in
     let none = c.requires.room.0 in
     let all : into_iter_items c.into_iter-hand-iterator.result ≡ c.captures.others.items = search rules in
     record {
@@ -24,7 +24,7 @@ loop-hand-init g c =
 pub loop-hand-preserved-then-refused : goal.loop-hand-preserved-then-refused
 loop-hand-preserved-then-refused g c =
     let was = c.loop-hand.invariant in
-    let lock = c.captures.room.now.lock.now in
+    let lock = c.captures.common.now.lock.now in
     let x = c.in-Some.hand in
     let left = into_iter_items c.loop-hand.hand-iterator in
     let first : left ≡ x ∷ into_iter_items c.next.new.self = search rules in
@@ -39,7 +39,7 @@ loop-hand-preserved-then-refused g c =
 pub loop-hand-preserved-in-Ok : goal.loop-hand-preserved-in-Ok
 loop-hand-preserved-in-Ok g c =
     let was = c.loop-hand.invariant in
-    let lock = c.captures.room.now.lock.now in
+    let lock = c.captures.common.now.lock.now in
     let x = c.in-Some.hand in
     let h = c.in-Ok.handle in
     let left = into_iter_items c.loop-hand.hand-iterator in
@@ -63,7 +63,7 @@ loop-hand-preserved-in-Ok g c =
 pub loop-hand-preserved : goal.loop-hand-preserved
 loop-hand-preserved g c =
     let was = c.loop-hand.invariant in
-    let lock = c.captures.room.now.lock.now in
+    let lock = c.captures.common.now.lock.now in
     let x = c.in-Some.hand in
     let left = into_iter_items c.loop-hand.hand-iterator in
     let rest = into_iter_items c.next.new.self in
@@ -79,7 +79,7 @@ loop-hand-preserved g c =
 
 pub join-requires : goal.join-requires
 join-requires g c =
-    let lock = c.captures.room.now.lock.now in
+    let lock = c.captures.common.now.lock.now in
     let x = c.in-Some.hand in
     let left = into_iter_items c.loop-hand.hand-iterator in
     let first : left ≡ x ∷ into_iter_items c.next.new.self = search rules in
@@ -91,7 +91,7 @@ join-requires g c =
 
 pub spawn_with-requires-clause-runs : goal.spawn_with-requires-clause-runs
 spawn_with-requires-clause-runs g c κs within =
-    let lock = c.captures.room.now.lock.now in
+    let lock = c.captures.common.now.lock.now in
     let x = c.in-Some.hand in
     let left = into_iter_items c.loop-hand.hand-iterator in
     let first : left ≡ x ∷ into_iter_items c.next.new.self = search rules in
@@ -100,23 +100,23 @@ spawn_with-requires-clause-runs g c κs within =
 
 pub job-hand-requires : goal.job-hand-requires
 job-hand-requires g c =
-    let lock = c.captures.room.now.lock.now in
+    let lock = c.captures.common.now.lock.now in
     let x = c.in-Some.hand in
     let left = into_iter_items c.loop-hand.hand-iterator in
     let first : left ≡ x ∷ into_iter_items c.next.new.self = search rules in
     let free : IsFree lock x = All-first (IsFree lock) x left _ first c.loop-hand.invariant.all.are_waiting in
     let known = subst (λ v. IsFree v.0.now.lock.now v.2) (sym c.in-Err.ensures.err) free in
-    let on = subst (λ v. g.T.Works.is_on v.0.now.shared.now v.0.now.lock.now.name) (sym c.in-Err.ensures.err) c.requires.on in
-    let lanes = subst (λ v. v.0.now.whole.lanes ≡ g.T.Works.lanes_in v.0.now.lock.now.name) (sym c.in-Err.ensures.err) c.requires.lanes in
+    let on = subst (λ v. g.T.Lanes.is_on v.0.now.shared.now v.0.now.lock.now.name) (sym c.in-Err.ensures.err) c.requires.on in
+    let lanes = subst (λ v. v.0.now.whole.lanes ≡ g.T.Lanes.lanes_in v.0.now.lock.now.name) (sym c.in-Err.ensures.err) c.requires.lanes in
     search (rules, known, on, lanes)
 
 pub join_all-requires : goal.join_all-requires
 join_all-requires g c =
     let was = c.loop-hand.invariant in
-    let lock = c.captures.room.now.lock.now in
+    let lock = c.captures.common.now.lock.now in
     let left = into_iter_items c.loop-hand.hand-iterator in
     let none : left ≡ [] = nil_from_length left (let zero : into_iter_len c.loop-hand.hand-iterator ≡ 0 = c.in-None.ensures.steps.0 in search (rules, zero)) in
     record {
-      all = all_started lock c.run_hand-own.result _ left none (one_ran lock c.loop-hand.own c.run_hand-own.result _ left c.run_hand-own.ensures.free c.run_hand-own.ensures.mine was.all);
+      all = all_started lock c.run-own.result _ left none (one_ran lock c.loop-hand.own c.run-own.result _ left c.run-own.ensures.stays.free c.run-own.ensures.stays.mine was.all);
       lock = was.lock;
     }

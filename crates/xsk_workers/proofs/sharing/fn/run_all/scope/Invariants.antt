@@ -8,7 +8,7 @@ abbrev pub invariant-loop-hand : goal.invariant-loop-hand
 invariant-loop-hand g l = record {
   can : (goal.iterator-loop-hand g).can_next l.hand-iterator;
   ends : (goal.iterator-loop-hand g).is_finite l.hand-iterator;
-  all : AreAll l.room.now.lock.now l.own (map (λ h. h.promise.hand.value) (vec_items l.handles)) (into_iter_items l.hand-iterator);
-  lock : All (λ h. h.promise.lock.value ≡ l.room.now.lock.now) (vec_items l.handles);
+  all : AreAll l.common.now.lock.now l.own (map (λ h. h.promise.hand.value) (vec_items l.handles)) (into_iter_items l.hand-iterator);
+  lock : All (λ h. h.promise.lock.value ≡ l.common.now.lock.now) (vec_items l.handles);
   room : vec_len l.handles + into_iter_len l.hand-iterator ≤ vec_capacity l.handles;
 }
