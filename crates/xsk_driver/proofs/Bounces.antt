@@ -3,12 +3,13 @@
 use Rattle.std.proofs.Common.{◌≡◌, ℕ, Bool, true, false, cond, List, [], ◌∷◌, ◌++◌, refl, sym, ap, ◌∙◌, subst, append_assoc, append-nil}
 use Rattle.xsk_model.specs.Packets.{bytes_of}
 use Rattle.std.specs.List.{slice_index_or}
-use Rattle.xsk_model.specs.declared.call.Act.TheVariants.{Call as Gave}
-use Rattle.xsk_turns.specs.SentWith.{is_bouncing, is_completing, sent_by}
+use Rattle.xsk_model.specs.declared.call.Act.{Act}
+use Rattle.xsk_model.specs.declared.call.Act.TheVariants.{Call as Gave, Ended as IsEnded}
+use Rattle.xsk_turns.specs.SentWith.{sent_by}
 use Rattle.xsk_turns.specs.Turns.{Kept}
 use Rattle.xsk_driver.specs.SentRoom.{Sends}
 use Rattle.xsk_driver.specs.Outbox.{sent_in, outbox_of}
-use Rattle.xsk_driver.specs.Gives.{SendsBy, SendsAll, counts_bounced, bounced_by}
+use Rattle.xsk_driver.specs.Gives.{SendsBy, SendsAll, IsQuietAct, counts_by, counts_bounced, bounced_by}
 use Rattle.xsk_driver.specs.Stands.{seat_in, kept_in, first}
 use Rattle.xsk_driver.specs.declared.machine.Machine.{Machine}
 use Rattle.xsk_driver.specs.declared.outbox.Outbox.{Outbox}
@@ -39,9 +40,11 @@ sends_bounced old mid now act bytes is counts same packet sends adds packets bef
     (subst (λ (ps : List (List ℕ)). Sends (sent_in now) ps) (append_assoc packets completed (bytes ∷ [])) (adds (packets ++ completed) (sends packets before)))
 
 -- where nothing is completed, nothing is sent before
-pub quiet_by : (old mid : Machine) (call : Call) → mid.outbox ≡ old.outbox → is_completing call ≡ false → SendsBy old mid (Gave call)
-quiet_by old mid call same quiet packets before =
+pub quiet_by : (old mid : Machine) (act : Act) → mid.outbox ≡ old.outbox → IsQuietAct act → SendsBy old mid act
+quiet_by old mid (Gave call) same quiet packets before =
     let seat = seat_in old in
     let kept = kept_in old in
     subst (λ (b : Bool). Sends (sent_in mid) (packets ++ (cond b (bytes_of seat.config.geometry seat.config.sg (slice_index_or kept.finished 0 []) ∷ []) []))) (sym quiet)
     (subst (λ (ps : List (List ℕ)). Sends (sent_in mid) ps) (sym (append-nil packets)) (subst (λ (s : Outbox). Sends (outbox_of s) packets) (sym same) before))
+quiet_by old mid IsEnded same quiet packets before =
+    subst (λ (ps : List (List ℕ)). Sends (sent_in mid) ps) (sym (append-nil packets)) (subst (λ (s : Outbox). Sends (outbox_of s) packets) (sym same) before)

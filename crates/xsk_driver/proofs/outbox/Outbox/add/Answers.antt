@@ -5,8 +5,8 @@ use Rattle.xsk_driver.specs.SentRoom.{IsShort}
 use Rattle.xsk_driver.specs.Outbox.{outbox_of}
 use Rattle.xsk_umem.proofs.Lengths.{length_concat-push}
 use Rattle.xsk_driver.proofs.Sent.{add_over, add_within}
-use Rattle.xsk_driver.proofs.sending.Outbox.add.Goals as goal
-use Rattle.xsk_driver.proofs.sending.Outbox.add.Goals.{then-self-via-then-self, then-self-via-else-self+then-self-eq0, then-self-via-else-self+else-self-eq0+then-bytes-self}
+use Rattle.xsk_driver.proofs.outbox.Outbox.add.Goals as goal
+use Rattle.xsk_driver.proofs.outbox.Outbox.add.Goals.{then-self-via-then-self, then-self-via-else-self+then-self-eq0, then-self-via-else-self+else-self-eq0+then-bytes-self}
 
 pub invariant_of-self-2-clause-bytes_few : goal.invariant_of-self-2-clause-bytes_few
 invariant_of-self-2-clause-bytes_few c = rw (c.push_reserved.ensures.packets, length_concat-push) (omega (arith, c.args.self.now.bytes_few))

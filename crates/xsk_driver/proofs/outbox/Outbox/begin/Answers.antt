@@ -5,8 +5,8 @@ use Rattle.xsk_driver.specs.SentRoom.{IsShort}
 use Rattle.xsk_driver.specs.Outbox.{outbox_of}
 use Rattle.xsk_umem.proofs.Lengths.{length_concat-push}
 use Rattle.xsk_driver.proofs.Sent.{last_length-push, add_over, add_within}
-use Rattle.xsk_driver.proofs.sending.Outbox.begin.Goals as goal
-use Rattle.xsk_driver.proofs.sending.Outbox.begin.Goals.{then-self-via-then-self, then-self-via-else-self+then-self-eq0}
+use Rattle.xsk_driver.proofs.outbox.Outbox.begin.Goals as goal
+use Rattle.xsk_driver.proofs.outbox.Outbox.begin.Goals.{then-self-via-then-self, then-self-via-else-self+then-self-eq0}
 
 pub invariant_of-self-2-clause-bytes_few : goal.invariant_of-self-2-clause-bytes_few
 invariant_of-self-2-clause-bytes_few c = rw (c.push_reserved.ensures.packets, length_concat-push) (omega (arith, c.args.self.now.bytes_few))

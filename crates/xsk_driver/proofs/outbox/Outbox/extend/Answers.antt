@@ -3,8 +3,8 @@ use Rattle.std.proofs.lemmas.Bool.{true≢false}
 use Rattle.xsk_driver.specs.SentRoom.{last_length}
 use Rattle.xsk_driver.specs.Outbox.{outbox_of}
 use Rattle.xsk_driver.proofs.Sent.{last_length-with_last_extended, length-with_last_extended, length_concat-with_last_extended, short-with_last_extended, some_packet, extend_over, extend_within}
-use Rattle.xsk_driver.proofs.sending.Outbox.extend.Goals as goal
-use Rattle.xsk_driver.proofs.sending.Outbox.extend.Goals.{then-self-via-then-self, then-self-via-else-self+then-is_empty, then-self-via-else-self+else-is_empty+then-bytes-self}
+use Rattle.xsk_driver.proofs.outbox.Outbox.extend.Goals as goal
+use Rattle.xsk_driver.proofs.outbox.Outbox.extend.Goals.{then-self-via-then-self, then-self-via-else-self+then-is_empty, then-self-via-else-self+else-is_empty+then-bytes-self}
 
 pub invariant_of-self-2-clause-packets_few : goal.invariant_of-self-2-clause-packets_few
 invariant_of-self-2-clause-packets_few c = rw (c.extend_last.ensures.packets, length-with_last_extended) (omega (arith, c.args.self.now.packets_few))
