@@ -95,7 +95,7 @@ static short ready(struct xsk_socket *x, short events)
 	short told = 0;
 	if (events & (POLLIN | POLLRDNORM) && x->rx) {
 		if (!x->rx->unseen)
-			fetch(x->rx, 1);
+			fetch(x->rx, 1, COME);
 		told |= x->rx->unseen ? events & (POLLIN | POLLRDNORM) : 0;
 	}
 	if (events & (POLLOUT | POLLWRNORM) && x->tx)

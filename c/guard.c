@@ -20,8 +20,8 @@ static void touched(int number, siginfo_t *info, void *context)
 		c = &u->chunks[(uint64_t)(at - u->area) / u->config.frame_size];
 		fprintf(stderr,
 			"xsk: behind %s:%d: address %llu of the UMEM is touched, and isn't the program's: its frame was submitted on %s at "
-			"%s:%d\n",
-			here.file, here.line, (unsigned long long)(at - u->area), name_of(c->side), c->since.file, c->since.line);
+			"%s:%u\n",
+			here.file, here.line, (unsigned long long)(at - u->area), name_of(c->side), c->file, c->line);
 	}
 	signal(number, SIG_DFL); /* it comes again, at the same line */
 }

@@ -11,7 +11,7 @@ static struct side *side_of(const __u32 *producer) { return (struct side *)(uint
 
 uint32_t entry_size(enum xsk_c_ring kind) { return kind == XSK_C_FILL || kind == XSK_C_COMP ? sizeof(__u64) : sizeof(struct xdp_desc); }
 
-static struct xdp_desc entry_at(const struct side *s, uint32_t index)
+static inline struct xdp_desc entry_at(const struct side *s, uint32_t index)
 {
 	struct xdp_desc e = {0};
 	if (entry_size(s->kind) == sizeof e)
@@ -147,7 +147,7 @@ void xsk_model_free(struct xsk_ring_prod *r, __u32 nb)
 }
 
 /* Whether the program has the chunk of an entry, by its own record; if so, it is noted that it has it no more. */
-static bool give(struct side *s, uint64_t address)
+static inline bool give(struct side *s, uint64_t address)
 {
 	struct xsk_umem *u = s->umem;
 	uint32_t number = chunk_number(u, address);
@@ -157,11 +157,12 @@ static bool give(struct side *s, uint64_t address)
 	c = &u->chunks[number];
 	if (c->has != WITH_PROGRAM)
 		return false;
-	if (u->started)
+	if (u->started && (c->frame == NO_FRAME || u->apps != 1))
 		frame_for(u, number, s->app);
 	c->has = ON_RING;
+	c->line = (uint32_t)here.line;
+	c->file = here.file;
 	c->side = s;
-	c->since = here;
 	c->call = u->calls;
 	return true;
 }
@@ -173,59 +174,93 @@ static void take_back(struct side *s, uint64_t address)
 		s->umem->chunks[number].has = WITH_PROGRAM;
 }
 
-/* Makes a Submit of the model of the n entries from number `passed` on; bytes are copied where the program has all their chunks. */
-static uint32_t submit(struct side *s, uint32_t n, bool copies)
-{
-	struct xsk_umem *u = s->umem;
+/* The entries of a Submit, as the model has them. */
+struct part {
 	struct xsk_c_desc items[XSK_C_MOST];
-	uint32_t i, chunk = u->layout.chunk;
-	for (i = 0; i < n; i++) {
-		struct xdp_desc e = entry_at(s, s->passed + i);
-		items[i].addr = model_address(s, e.addr);
-		items[i].len = e.len;
-		items[i].options = e.options;
-		if (s->kind != XSK_C_TX || !copies || chunk_number(u, e.addr) == NO_FRAME || e.len > chunk ||
-			(e.addr & (chunk - 1)) + e.len > chunk)
-			continue;
-		if (s->holds)
-			guard(u, chunk_number(u, e.addr), true);
-		xsk_c_write(&u->bench, items[i].addr, (const uint8_t *)u->area + e.addr, e.len);
-	}
-	return xsk_c_submit(&u->bench, s->app, s->kind, s->number, items, n);
+	uint32_t count, packets; /* that end among them */
+	uint32_t invalid;	 /* descriptors that TX doesn't send */
+};
+
+/* Whether its bytes lie in one chunk. */
+static inline bool is_inside(const struct xsk_umem *u, const struct xdp_desc *e)
+{
+	return e->addr < u->size && e->len <= u->layout.chunk - (e->addr & (u->layout.chunk - 1));
 }
 
-static void told_invalid(struct side *s, const struct xdp_desc *e)
+/* Whether TX sends it. */
+static inline bool is_valid(const struct xsk_umem *u, const struct xdp_desc *e)
 {
-	uint32_t chunk = s->umem->layout.chunk;
-	uint64_t room = chunk - (e->addr & (chunk - 1));
-	if (s->umem->invalid_told ||
-		(chunk_number(s->umem, e->addr) != NO_FRAME && e->len && e->len <= room && e->options <= (s->umem->sg ? XDP_PKT_CONTD : 0)))
+	return is_inside(u, e) && e->len && e->options <= (u->sg ? XDP_PKT_CONTD : 0);
+}
+
+/* Appends an entry to a part; with its bytes, if the program has its chunk. */
+static inline void append(struct side *s, struct part *p, struct xdp_desc e, bool copies)
+{
+	struct xsk_umem *u = s->umem;
+	struct xsk_c_desc *item = &p->items[p->count++];
+	*item = (struct xsk_c_desc){model_address(s, e.addr), e.len, e.options};
+	if (s->kind != XSK_C_TX)
+		return;
+	p->packets += !(e.options & XDP_PKT_CONTD);
+	p->invalid += !is_valid(u, &e);
+	if (!copies || !is_inside(u, &e))
+		return;
+	if (s->holds)
+		guard(u, chunk_number(u, e.addr), true);
+	xsk_c_write(&u->bench, item->addr, (const uint8_t *)u->area + e.addr, e.len);
+}
+
+/* Appends all entries up to the n-th, without bytes. */
+static void append_rest(struct side *s, struct part *p, uint32_t n)
+{
+	while (p->count < n)
+		append(s, p, entry_at(s, s->passed + p->count), false);
+}
+
+static uint32_t submit(struct side *s, const struct part *p)
+{
+	return xsk_c_submit(&s->umem->bench, s->app, s->kind, s->number, p->items, p->count);
+}
+
+/* Tells of the first descriptor of all that isn't valid. */
+static void tell_invalid(struct side *s, uint32_t n)
+{
+	struct xdp_desc e = {0};
+	uint32_t i;
+	if (s->umem->invalid_told)
 		return;
 	s->umem->invalid_told = true;
+	for (i = 0; i < n; i++) {
+		e = entry_at(s, s->passed + i);
+		if (!is_valid(s->umem, &e))
+			break;
+	}
 	fprintf(stderr,
 		"xsk: %s:%d: %s gets an invalid descriptor, address %llu length %u options %u: it counts in tx_invalid_descs, and its "
 		"frame doesn't come back\n",
-		here.file, here.line, name_of(s), (unsigned long long)e->addr, e->len, e->options);
+		here.file, here.line, name_of(s), (unsigned long long)e.addr, e.len, e.options);
+}
+
+static void guard_all(struct side *s, uint32_t from, uint32_t n)
+{
+	uint32_t i, number;
+	for (i = 0; guards && i < n; i++) {
+		number = chunk_number(s->umem, entry_at(s, from + i).addr);
+		if (number != NO_FRAME)
+			guard(s->umem, number, false);
+	}
 }
 
 /* The chunks of a part have left the program. */
-static void gone(struct side *s, uint32_t n)
+static void gone(struct side *s, const struct part *p)
 {
-	struct xsk_umem *u = s->umem;
-	uint32_t i, number;
-	for (i = 0; i < n; i++) {
-		struct xdp_desc e = entry_at(s, s->passed + i);
-		number = chunk_number(u, e.addr);
-		if (s->kind == XSK_C_TX) {
-			s->packets += !(e.options & XDP_PKT_CONTD);
-			told_invalid(s, &e);
-		}
-		if (number != NO_FRAME)
-			guard(u, number, false);
-	}
-	s->passed += n;
-	s->room -= n;
-	acted(u);
+	s->packets += p->packets;
+	if (p->invalid)
+		tell_invalid(s, p->count);
+	guard_all(s, s->passed, p->count);
+	s->passed += p->count;
+	s->room -= p->count;
+	acted(s->umem);
 }
 
 /* Passes entries that were held back on to the model, `most` of them or as many as there are places for; tells how many. */
@@ -235,53 +270,67 @@ uint32_t pass(struct side *s, uint32_t most)
 	if (s->capacity != s->size)
 		ask_all(s);
 	while (done < most && s->passed != s->producer && s->room) {
-		uint32_t n = 0, limit = min(min(XSK_C_MOST, s->producer - s->passed), min(most - done, s->room));
-		while (n < limit && entry_at(s, s->passed + n).addr != SKIPPED)
-			n++;
-		if (n && legal(s, "submit", n, submit(s, n, true), -1))
-			gone(s, n);
+		struct part p;
+		uint32_t limit = min(min(XSK_C_MOST, s->producer - s->passed), min(most - done, s->room));
+		p.count = p.packets = p.invalid = 0;
+		while (p.count < limit && entry_at(s, s->passed + p.count).addr != SKIPPED)
+			append(s, &p, entry_at(s, s->passed + p.count), true);
+		if (p.count && legal(s, "submit", p.count, submit(s, &p), -1))
+			gone(s, &p);
 		else
-			s->passed += n ? n : 1;
-		done += n;
+			s->passed += p.count ? p.count : 1;
+		done += p.count;
 	}
 	return done;
 }
 
-/* Judges n entries of a Submit, makes it, and tells whether it was legal. */
-static bool submit_part(struct side *s, uint32_t from, uint32_t n)
+/* Whether the model knows that the program hasn't a chunk. */
+static bool is_known(const struct chunk *c) { return c->has == ON_RING && !c->side->holds; }
+
+/* Judges n entries, and holds those back that may be submitted. */
+static void hold(struct side *s, uint32_t from, uint32_t n)
 {
-	struct xsk_umem *u = s->umem;
-	uint32_t i, given, answer;
-	int64_t culprit = -1;
-	bool unseen = false; /* the model doesn't know that the program hasn't this chunk */
-	for (i = 0; i < n && culprit < 0; i++) {
-		uint64_t address = entry_at(s, from + i).addr;
-		if (!give(s, address)) {
-			struct chunk *c = &u->chunks[chunk_number(u, address)];
-			culprit = (int64_t)address;
-			unseen = c->has == COME || (c->has == ON_RING && c->side->holds);
-		}
+	uint32_t i, given = 0;
+	while (given < n && give(s, entry_at(s, from + given).addr))
+		given++;
+	if (given == n) {
+		guard_all(s, from, n);
+		return;
 	}
-	given = culprit < 0 ? n : i - 1;
-	if (culprit >= 0 && (unseen || s->holds))
-		answer = XSK_C_FRAMES;
-	else
-		answer = s->holds ? (uint32_t)XSK_C_DONE : submit(s, n, culprit < 0);
-	if (culprit >= 0 && answer == XSK_C_ITEMS) /* the model finds no frame for it */
-		answer = XSK_C_FRAMES;
-	if (legal(s, "submit", n, answer, culprit)) {
-		for (i = 0; i < n && s->holds; i++)
-			if (chunk_number(u, entry_at(s, from + i).addr) != NO_FRAME)
-				guard(u, chunk_number(u, entry_at(s, from + i).addr), false);
-		if (!s->holds)
-			gone(s, n);
-		return true;
-	}
+	legal(s, "submit", n, XSK_C_FRAMES, (int64_t)entry_at(s, from + given).addr);
 	for (i = 0; i < given; i++)
 		take_back(s, entry_at(s, from + i).addr);
-	for (i = 0; i < n && s->holds; i++)
+	for (i = 0; i < n; i++)
 		set_entry(s, from + i, (struct xdp_desc){.addr = SKIPPED});
-	return false;
+}
+
+/* Judges the next n entries, and makes a Submit of the model of them; one that isn't legal isn't made. */
+static void submit_next(struct side *s, uint32_t n)
+{
+	struct part p;
+	struct xdp_desc e = {0};
+	uint32_t given, i, answer = XSK_C_FRAMES;
+	p.count = p.packets = p.invalid = 0;
+	while (p.count < n) {
+		e = entry_at(s, s->passed + p.count);
+		if (!give(s, e.addr))
+			break;
+		append(s, &p, e, true);
+	}
+	given = p.count;
+	if (given == n || is_known(&s->umem->chunks[chunk_number(s->umem, e.addr)])) {
+		append_rest(s, &p, n);
+		answer = submit(s, &p);
+	}
+	if (given < n && answer == XSK_C_ITEMS) /* the model finds no frame for it */
+		answer = XSK_C_FRAMES;
+	if (legal(s, "submit", n, answer, given < n ? (int64_t)e.addr : -1)) {
+		gone(s, &p);
+		return;
+	}
+	for (i = 0; i < given; i++)
+		take_back(s, entry_at(s, s->passed + i).addr);
+	s->passed += n;
 }
 
 __u32 xsk_model_submit(struct xsk_ring_prod *r, __u32 nb)
@@ -299,12 +348,17 @@ __u32 xsk_model_submit(struct xsk_ring_prod *r, __u32 nb)
 		nb = reserved;
 	while (done < nb) {
 		uint32_t n = min(nb - done, XSK_C_MOST);
-		if (!s->holds && n > s->room) { /* the model refuses it */
-			legal(s, "submit", nb, submit(s, n, false), -1);
+		if (s->holds) {
+			hold(s, s->producer + done, n);
+		} else if (n <= s->room) {
+			submit_next(s, n);
+		} else { /* the model refuses it */
+			struct part p;
+			p.count = p.packets = p.invalid = 0;
+			append_rest(s, &p, n);
+			legal(s, "submit", nb, submit(s, &p), -1);
 			break;
 		}
-		if (!submit_part(s, s->producer + done, n) && !s->holds)
-			s->passed += n; /* what isn't legal isn't made */
 		done += n;
 	}
 	if (s->holds && u->started && !(s->kind == XSK_C_TX && settings.copy)) {
@@ -334,15 +388,15 @@ void xsk_model_look(const struct xsk_ring_prod *r)
 
 /* ---- RX and COMPLETION */
 
-static void came(struct side *s, uint32_t index, const struct xsk_c_desc *item)
+static void came(struct side *s, uint32_t index, const struct xsk_c_desc *item, enum having has)
 {
 	struct xsk_umem *u = s->umem;
 	uint64_t address = program_address(u, item->addr);
 	uint32_t number = (uint32_t)(address >> u->chunk_shift);
 	struct chunk *c = &u->chunks[number];
-	c->has = COME;
+	c->has = has;
 	c->side = s;
-	s->unseen++;
+	s->unseen += has == COME;
 	guard(u, number, true);
 	set_entry(s, index, (struct xdp_desc){.addr = address, .len = item->len, .options = item->options});
 	if (s->kind == XSK_C_RX) {
@@ -351,8 +405,8 @@ static void came(struct side *s, uint32_t index, const struct xsk_c_desc *item)
 	}
 }
 
-/* Takes entries from the model into the program's ring, as many as are wanted. */
-void fetch(struct side *s, uint32_t wanted)
+/* Takes entries from the model into the program's ring, as many as are wanted; the program has their chunks then, or once it peeks them. */
+void fetch(struct side *s, uint32_t wanted, enum having has)
 {
 	struct xsk_umem *u = s->umem;
 	struct xsk_c_desc items[XSK_C_MOST];
@@ -364,7 +418,7 @@ void fetch(struct side *s, uint32_t wanted)
 		if (answer == XSK_C_EMPTY || !legal(s, "peek", n, answer, -1))
 			return;
 		for (i = 0; i < count; i++)
-			came(s, s->producer + i, &items[i]);
+			came(s, s->producer + i, &items[i], has);
 		s->producer += count;
 		s->room += count;
 		acted(u);
@@ -392,18 +446,16 @@ void xsk_model_peek(struct xsk_ring_cons *r, __u32 nb)
 	struct side *s = side_of(r->producer);
 	struct xsk_umem *u = s->umem;
 	uint32_t stand;
+	bool anew;
 	enter(u);
 	u->calls++;
 	start(u);
-	stand = r->cached_prod - r->cached_cons;
-	if (!stand) { /* the program looks at the count anew */
-		uint32_t come = s->producer - r->cached_cons;
-		if (come < nb)
-			fetch(s, nb - come);
-		stand = s->producer - r->cached_cons;
-	}
+	anew = r->cached_prod == r->cached_cons; /* the program looks at the count */
+	stand = (anew ? s->producer : r->cached_prod) - r->cached_cons;
 	peeked(s, r->cached_cons, min(nb, stand), true);
-	if (nb && !stand)
+	if (anew && stand < nb)
+		fetch(s, nb - stand, WITH_PROGRAM);
+	if (anew && nb && s->producer == r->cached_cons)
 		found_nothing(u);
 	leave();
 }

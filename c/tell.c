@@ -48,7 +48,7 @@ static void tell_holder(const struct xsk_umem *u, uint64_t address)
 		fprintf(stderr, "was submitted on %s and hasn't come back, since", name_of(c->side));
 	else
 		fprintf(stderr, "came back to the program, and was submitted before");
-	fprintf(stderr, " at %s:%d, call %llu\n", c->since.file, c->since.line, (unsigned long long)c->call);
+	fprintf(stderr, " at %s:%u, call %llu\n", c->file, c->line, (unsigned long long)c->call);
 }
 
 /* Tells of a call that wasn't made; it is false. */

@@ -58,13 +58,14 @@ struct xsk_socket {
 	bool deleted, woken;
 };
 
-/* Where a chunk of the program's is. */
+/* Where a chunk of the program's is: 32 bytes, so that each lies in one line of the cache. */
+enum having { WITH_PROGRAM, ON_RING, COME }; /* COME: it is back on the ring, and the program hasn't peeked it */
 struct chunk {
-	uint32_t frame;				  /* the model's, or NO_FRAME */
-	enum { WITH_PROGRAM, ON_RING, COME } has; /* COME: it is back on the ring, and the program hasn't peeked it */
-	struct side *side;
-	struct place since;
+	struct side *side; /* where it was submitted, or came, last; the rest tells of its last Submit */
+	const char *file;
 	uint64_t call;
+	uint32_t line : 24, has : 8; /* enum having */
+	uint32_t frame;		     /* the model's, or NO_FRAME */
 };
 
 struct xsk_umem {
@@ -118,7 +119,7 @@ _Noreturn void die(const char *format, ...) __attribute__((format(printf, 1, 2))
 /* start.c: the layout is known: the bench is opened, the program gets all frames, and what it put on FILL is passed on. */
 void start(struct xsk_umem *u);
 /* rings.c */
-void fetch(struct side *s, uint32_t wanted);
+void fetch(struct side *s, uint32_t wanted, enum having has);
 uint32_t pass(struct side *s, uint32_t most);
 uint32_t entry_size(enum xsk_c_ring kind);
 /* turns.c */

@@ -156,9 +156,11 @@ int xsk_umem__create(struct xsk_umem **made, void *area, __u64 size, struct xsk_
 	u->fd = eventfd(1, EFD_CLOEXEC); /* select() and epoll find it ready */
 	u->chunk_shift = usual.frame_size == 2048 ? 11 : 12;
 	u->chunk_count = (uint32_t)(size >> u->chunk_shift);
-	u->chunks = zeroed(u->chunk_count, sizeof *u->chunks);
+	u->chunks = aligned_alloc(sizeof *u->chunks, u->chunk_count * sizeof *u->chunks);
+	if (!u->chunks)
+		die("out of memory");
 	for (uint32_t i = 0; i < u->chunk_count; i++)
-		u->chunks[i].frame = NO_FRAME;
+		u->chunks[i] = (struct chunk){.frame = NO_FRAME};
 	u->fill_first = new_side(u, XSK_C_FILL, usual.fill_size);
 	u->comp_first = new_side(u, XSK_C_COMP, usual.comp_size);
 	show_prod(fill, u->fill_first);
