@@ -23,6 +23,7 @@ mod setup;
 mod shown;
 mod stalls;
 mod status;
+mod terms;
 mod texts;
 mod thread_run;
 mod threads;

@@ -14,30 +14,28 @@ ghost use Rattle.xsk_cli.specs.Ends.{ComesOf, Tells};
 ghost use Rattle.xsk_cli.specs.Streams.{HasLine, IsAtOnce, IsSilent, status_in};
 ghost use Rattle.xsk_cli.specs.Forward.{IsRun};
 ghost use Rattle.xsk_cli.specs.Judged.{AreShort, excess_of};
-ghost use Rattle.xsk_cli.specs.Outcome.{AreTextsBy, AreTextsOf, IsOutcome, frames_of, listed, made, setting_of};
-ghost use Rattle.xsk_cli.specs.Steps.{AreFor, AreMade, CanBeLaid, FailsMaking, FailsRunning, IsReady, MakesNo, MakesNone, lists_in, outputs_in, plan_in, read_by, written_by, written_in};
+ghost use Rattle.xsk_cli.specs.Outcome.{AreTextsBy, IsOutcome, frames_of, listed, made};
+ghost use Rattle.xsk_cli.specs.Steps.{AreFor, AreMade, CanBeLaid, FailsMaking, IsReady, MakesNo, MakesNone, lists_in, outputs_in, plan_in, read_by, written_by, written_in};
+ghost use Rattle.xsk_cli.specs.Terms.{AreTextsUnder, FailsUnder, setting_in};
 ghost use Rattle.xsk_cli.specs.Words.{fault_in, most_of, ports_in};
 
 use crate::chain::{Chained, Made, Maker, Unmade, run_plan};
 use crate::failure::RunFailure;
 use crate::files::spare_text;
-use crate::format::Format;
 use crate::lists::take_lists;
 use crate::programs::chain_of;
 use crate::setup::set_up;
 use crate::stalls::explain;
+use crate::terms::Terms;
 use crate::texts::{Texts, sent_outputs};
-use crate::words::{Plan, Telling, Work};
+use crate::words::{Plan, Work};
 use std::alloc::Global;
-use xsk_args::ProgramList;
 use xsk_io::Bay;
 use xsk_machine::Sent;
 use xsk_model::Config;
 use xsk_prog::{Rule, XdpProgram};
 use xsk_sim::{Run, Unended, append_journal, simulate_unlogged, simulate_with_object};
-use xsk_socket::Layout;
 use xsk_stats::report;
-use xsk_turns::{Manner, Wire};
 use xsk_umem::{OutOfMemory, PacketList};
 
 /// Texts are made by a run in rounds.
@@ -118,59 +116,30 @@ fn run_work(alloc: Global, work: &Work, lists: Vec<PacketList>) -> Result<Made<S
     ensures laid { IfOk result (λ ran. CanBeLaid ran.left.lists ran.texts.outputs) }
     ensures failed { IfErr result (FailsMaking work.now (lists_in lists.items)) }
 {
-    match work {
-        Work::Simulate {
-            layout,
-            programs,
-            wire,
-            manner,
-            order,
-            telling,
-            format,
-            ..
-        } => run_texts(
-            alloc, *format, layout, programs, *wire, *manner, *order, *telling, lists,
-        ),
-        Work::Generate { .. } | Work::Audit { .. } => unreachable!(),
-    }
+    run_texts(alloc, Terms::of(work), lists)
 }
 
 /// Runs the packets of all ports, and makes what is written. What the run took is given up before the outputs are made.
-#[allow(clippy::too_many_arguments)]
 fn run_texts(
     alloc: Global,
-    format: Format,
-    layout: &Layout,
-    programs: &ProgramList,
-    wire: Wire,
-    manner: Manner,
-    order: u32,
-    telling: Telling,
+    terms: Terms<'_>,
     lists: Vec<PacketList>,
 ) -> Result<Made<Sent>, RunFailure>
-    requires accepted { fault_of layout.now ≡ None }
-    requires ports { length lists.items ≡ layout.now.ports }
+    requires accepted { fault_of terms.layout.now ≡ None }
+    requires ports { length lists.items ≡ terms.layout.now.ports }
     requires within { excess_of (lists_in lists.items) ≡ None }
     requires listed { lists.items ≡ map listed (lists_in lists.items) }
     requires short { All HasShortPackets lists.items }
-    ensures made { IfOk result (λ ran. AreTextsOf format layout.now programs.now wire manner order (lists_in lists.items) telling.journal (written_in ran.left.lists ran.texts)) }
+    ensures made { IfOk result (λ ran. AreTextsUnder terms.entry (lists_in lists.items) (written_in ran.left.lists ran.texts)) }
     ensures laid { IfOk result (λ ran. CanBeLaid ran.left.lists ran.texts.outputs) }
-    ensures failed { IfErr result (FailsRunning layout.now programs.now wire manner order telling (lists_in lists.items)) }
+    ensures failed { IfErr result (FailsUnder terms.entry (lists_in lists.items)) }
 {
-    let (left, report) = run_lists(
-        alloc,
-        layout,
-        programs,
-        wire,
-        manner,
-        order,
-        telling,
-        lists.as_slice(),
-    )?;
+    let (left, report) = run_lists(alloc, terms, lists.as_slice())?;
     let spare = spare_text(alloc, lists);
+    let layout = terms.layout;
     let outputs = sent_outputs(
         alloc,
-        format,
+        terms.format,
         layout.ports,
         layout.queues,
         spare,
@@ -182,26 +151,29 @@ fn run_texts(
 
 /// Runs the lists of all ports under the programs' rules, with the wire, and tells what was sent, with the report. Where the
 /// journal was asked for, it stands behind the report. No log is kept of the run where neither this nor why it stalls was asked for.
-#[allow(clippy::too_many_arguments)]
 fn run_lists(
     alloc: Global,
-    layout: &Layout,
-    programs: &ProgramList,
-    wire: Wire,
-    manner: Manner,
-    order: u32,
-    telling: Telling,
+    terms: Terms<'_>,
     lists: &[PacketList],
 ) -> Result<(Sent, Vec<u8>), RunFailure>
-    requires accepted { fault_of layout.now ≡ None }
-    requires ports { length lists.now ≡ layout.now.ports }
+    requires accepted { fault_of terms.layout.now ≡ None }
+    requires ports { length lists.now ≡ terms.layout.now.ports }
     requires listed { lists.now ≡ map listed (lists_in lists.now) }
     requires short { All HasShortPackets lists.now }
-    ensures pairs { IfOk result (λ ran. length ran.0.lists ≡ pairs_in layout.now) }
-    ensures ended { IfOk result (λ ran. (run : Shown) × HasEnded (setting_of layout.now programs.now wire manner (lists_in lists.now)) (frames_of layout.now) order run
-        × IsSentBy run ran.0 × (ran.1.items ≡ report_text (regular_of layout.now) run.figures ++ (if telling.journal then journal_of run.pairs run.log else []))) }
-    ensures failed { IfErr result (FailsRunning layout.now programs.now wire manner order telling (lists_in lists.now)) }
+    ensures pairs { IfOk result (λ ran. length ran.0.lists ≡ pairs_in terms.entry.layout.now) }
+    ensures ended { IfOk result (λ ran. (run : Shown) × HasEnded (setting_in terms.entry (lists_in lists.now)) (frames_of terms.entry.layout.now) terms.entry.order run
+        × IsSentBy run ran.0 × (ran.1.items ≡ report_text (regular_of terms.entry.layout.now) run.figures ++ (if terms.entry.telling.journal then journal_of run.pairs run.log else []))) }
+    ensures failed { IfErr result (FailsUnder terms.entry (lists_in lists.now)) }
 {
+    let Terms {
+        layout,
+        programs,
+        wire,
+        manner,
+        order,
+        telling,
+        ..
+    } = terms;
     let (config, frames) = set_up(alloc, layout)?;
     let shared = config.copy(alloc)?;
     let mut chain = chain_of(alloc, programs.as_slice(), layout.sockets, |rule: Rule| {

@@ -9,37 +9,35 @@ ghost use Rattle.xsk_pcapng.specs.Written.{IsWritable as IsWritableFile};
 ghost use Rattle.xsk_socket.specs.Layout.{fault_of, pairs_in};
 ghost use Rattle.xsk_socket.specs.Regular.{regular_of};
 ghost use Rattle.xsk_stats.specs.Report.{report_text};
-ghost use Rattle.xsk_workers.specs.Forwarded.{HasForwarded, OutcomeShown};
+ghost use Rattle.xsk_workers.specs.Forwarded.{OutcomeShown};
 ghost use Rattle.xsk_io.specs.Bay.{NoneOpen};
 ghost use Rattle.xsk_cli.specs.Cause.{IsCaused, NeverFalls, NoOthers};
 ghost use Rattle.xsk_cli.specs.Ends.{TellsBy};
 ghost use Rattle.xsk_cli.specs.Streams.{HasLine, IsAtOnce, IsSilent, status_in, text_in};
-ghost use Rattle.xsk_cli.specs.Forward.{AreTextsFrom, ComesShown, HasShown, IsRun, unmangled};
+ghost use Rattle.xsk_cli.specs.Forward.{AreTextsFrom, ComesShown, HasShown, IsRun};
 ghost use Rattle.xsk_cli.specs.Format.{joined, outputs_of};
 ghost use Rattle.xsk_cli.specs.Judged.{excess_of};
-ghost use Rattle.xsk_cli.specs.Outcome.{AreTextsIn, frames_of, listed, report_of, setting_of};
+ghost use Rattle.xsk_cli.specs.Outcome.{listed};
 ghost use Rattle.xsk_cli.specs.Steps.{AreFor, AreMade, CanBeLaid, IsReady, MakesNo, lists_in, outputs_in, plan_in, written_in};
+ghost use Rattle.xsk_cli.specs.Terms.{AreTextsOfShown, HasShownUnder};
 ghost use Rattle.xsk_cli.specs.Words.{fault_in, ports_in, suits_hands, suits_in};
 
 use crate::chain::{Chained, Made, Maker, Unmade, run_plan};
 use crate::failure::RunFailure;
 use crate::files::spare_text;
-use crate::format::Format;
 use crate::lists::take_lists;
 use crate::setup::set_up;
+use crate::terms::Terms;
 use crate::texts::{Texts, sent_outputs};
 use crate::thread_run::{ThreadRun, forward_lists};
 use crate::words::{Plan, Work};
 use std::alloc::Global;
 use std::sync::Wait;
 use std::thread::Threads;
-use xsk_args::ProgramList;
 use xsk_gate::Gate;
 use xsk_io::Bay;
 use xsk_model::Config;
-use xsk_socket::Layout;
 use xsk_stats::report;
-use xsk_turns::{Manner, Wire};
 use xsk_umem::{OutOfMemory, PacketList};
 
 /// Texts are made by a run on threads.
@@ -142,68 +140,40 @@ fn make_shown<R: Threads + Wait + Sync, G: Gate + Sync>(
     ensures laid { IfOk result (λ made. CanBeLaid made.left.sent made.texts.outputs) }
     ensures shown { IfErr result (λ outcome. (o : OutcomeShown) → outcome ≡ Some o → HasShown work.now (lists_in lists.items) o) }
 {
-    match work {
-        Work::Simulate {
-            layout,
-            programs,
-            wire,
-            manner,
-            format,
-            ..
-        } => run_shown(
-            rt, alloc, *format, layout, programs, *wire, *manner, lists, gate,
-        ),
-        Work::Generate { .. } | Work::Audit { .. } => unreachable!(),
-    }
+    run_shown(rt, alloc, Terms::of(work), lists, gate)
 }
 
 /// Runs the packets of all ports on threads, and makes the texts of what the run shows. Where there is no memory for
 /// them this comes back, and nothing where there was none for the run.
-#[allow(clippy::too_many_arguments)]
 fn run_shown<R: Threads + Wait + Sync, G: Gate + Sync>(
     rt: &R,
     alloc: Global,
-    format: Format,
-    layout: &Layout,
-    programs: &ProgramList,
-    wire: Wire,
-    manner: Manner,
+    terms: Terms<'_>,
     lists: Vec<PacketList>,
     gate: &G,
 ) -> Result<Made<ThreadRun>, Option<ThreadRun>>
-    requires accepted { fault_of layout.now ≡ None }
-    requires suits { suits_hands layout.now manner ≡ true }
-    requires ports { length lists.items ≡ layout.now.ports }
+    requires accepted { fault_of terms.layout.now ≡ None }
+    requires suits { suits_hands terms.layout.now terms.manner ≡ true }
+    requires ports { length lists.items ≡ terms.layout.now.ports }
     requires within { excess_of (lists_in lists.items) ≡ None }
     requires listed { lists.items ≡ map listed (lists_in lists.items) }
     requires short { All HasShortPackets lists.items }
-    ensures made { IfOk result (λ made. HasForwarded layout.now.hands (setting_of layout.now programs.now wire (unmangled manner) (lists_in lists.items)) (frames_of layout.now) made.left
-        × AreTextsIn format layout.now programs.now wire (unmangled manner) (lists_in lists.items) made.left.history (report_of layout.now programs.now wire (unmangled manner) (lists_in lists.items) made.left.history) (written_in made.left.sent made.texts)) }
+    ensures made { IfOk result (λ made. HasShownUnder terms.entry (lists_in lists.items) made.left
+        × AreTextsOfShown terms.entry (lists_in lists.items) made.left (written_in made.left.sent made.texts)) }
     ensures laid { IfOk result (λ made. CanBeLaid made.left.sent made.texts.outputs) }
-    ensures shown { IfErr result (λ outcome. (o : OutcomeShown) → outcome ≡ Some o → HasForwarded layout.now.hands (setting_of layout.now programs.now wire (unmangled manner) (lists_in lists.items)) (frames_of layout.now) o) }
+    ensures shown { IfErr result (λ outcome. (o : OutcomeShown) → outcome ≡ Some o → HasShownUnder terms.entry (lists_in lists.items) o) }
 {
-    let Ok((config, frames)) = set_up(alloc, layout) else {
+    let Ok((config, frames)) = set_up(alloc, terms.layout) else {
         return Err(None);
     };
     let Ok(shared) = config.copy(alloc) else {
         return Err(None);
     };
-    let Ok(shown) = forward_lists(
-        rt,
-        alloc,
-        layout,
-        config,
-        frames,
-        programs,
-        wire,
-        manner,
-        lists.as_slice(),
-        gate,
-    ) else {
+    let Ok(shown) = forward_lists(rt, alloc, terms, config, frames, lists.as_slice(), gate) else {
         return Err(None);
     };
     let spare = spare_text(alloc, lists);
-    match shown_texts(alloc, format, layout, &shared, spare, &shown) {
+    match shown_texts(alloc, terms, &shared, spare, &shown) {
         Ok(texts) => Ok(Made { texts, left: shown }),
         Err(OutOfMemory) => Err(Some(shown)),
     }
@@ -212,25 +182,32 @@ fn run_shown<R: Threads + Wait + Sync, G: Gate + Sync>(
 /// The texts of what a run shows.
 fn shown_texts(
     alloc: Global,
-    format: Format,
-    layout: &Layout,
+    terms: Terms<'_>,
     config: &Config,
     spare: Vec<u8>,
     shown: &ThreadRun,
 ) -> Result<Texts, OutOfMemory>
     requires regular { IsRegular config.now }
     requires drivers { length shown.now.figures.drivers ≡ length config.now.pairs }
-    requires ports { layout.now.ports ≤ 4 }
-    requires few { layout.now.ports * layout.now.queues < 4294967296 }
-    requires sent { length shown.now.sent ≡ pairs_in layout.now }
-    requires writable { (port count : ℕ) → port < layout.now.ports → count ≤ layout.now.queues → IsWritable (take count (drop (port * layout.now.queues) shown.now.sent)) }
-    requires file { IsWritableFile (joined layout.now.ports layout.now.queues shown.now.sent) }
-    ensures outputs { IfOk result (λ texts. outputs_in shown.now.sent texts.outputs ≡ outputs_of format (λ port. take layout.now.queues (drop (port * layout.now.queues) shown.now.sent)) (range_with_len 0 layout.now.ports)) }
+    requires ports { terms.layout.now.ports ≤ 4 }
+    requires few { terms.layout.now.ports * terms.layout.now.queues < 4294967296 }
+    requires sent { length shown.now.sent ≡ pairs_in terms.layout.now }
+    requires writable { (port count : ℕ) → port < terms.layout.now.ports → count ≤ terms.layout.now.queues → IsWritable (take count (drop (port * terms.layout.now.queues) shown.now.sent)) }
+    requires file { IsWritableFile (joined terms.layout.now.ports terms.layout.now.queues shown.now.sent) }
+    ensures outputs { IfOk result (λ texts. outputs_in shown.now.sent texts.outputs ≡ outputs_of terms.entry.format (λ port. take terms.entry.layout.now.queues (drop (port * terms.entry.layout.now.queues) shown.now.sent)) (range_with_len 0 terms.entry.layout.now.ports)) }
     ensures laid { IfOk result (λ texts. CanBeLaid shown.now.sent texts.outputs) }
     ensures report { IfOk result (λ texts. texts.report.items ≡ report_text config.now shown.now.figures) }
 {
     let report = report(alloc, config, shown.figures())?;
     let sent = shown.lists();
-    let outputs = sent_outputs(alloc, format, layout.ports, layout.queues, spare, sent)?;
+    let layout = terms.layout;
+    let outputs = sent_outputs(
+        alloc,
+        terms.format,
+        layout.ports,
+        layout.queues,
+        spare,
+        sent,
+    )?;
     Ok(Texts { outputs, report })
 }

@@ -7,26 +7,24 @@ ghost use Rattle.xsk_model.specs.Config.{IsRegular};
 ghost use Rattle.xsk_model.specs.Opening.{AreFrames};
 ghost use Rattle.xsk_socket.specs.Layout.{fault_of, geometry_of, pairs_in};
 ghost use Rattle.xsk_socket.specs.Regular.{regular_of};
-ghost use Rattle.xsk_workers.specs.Forwarded.{HasForwarded};
-ghost use Rattle.xsk_cli.specs.Forward.{unmangled};
-ghost use Rattle.xsk_cli.specs.Outcome.{frames_of, listed, setting_of};
+ghost use Rattle.xsk_cli.specs.Outcome.{frames_of, listed};
 ghost use Rattle.xsk_cli.specs.Steps.{lists_in};
+ghost use Rattle.xsk_cli.specs.Terms.{HasShownUnder};
 ghost use Rattle.xsk_cli.specs.Words.{suits_hands};
 
 use crate::leaves::Leaves;
 use crate::programs::chain_of;
+use crate::terms::Terms;
 use std::alloc::Global;
 use std::marker::Model;
 use std::sync::Wait;
 use std::thread::Threads;
-use xsk_args::ProgramList;
 use xsk_gate::Gate;
 use xsk_machine::Figures;
 use xsk_model::Config;
 use xsk_pcap::CaptureHeaders;
 use xsk_prog::{Rule, XdpProgram};
-use xsk_socket::Layout;
-use xsk_turns::{Manner, Wire};
+use xsk_turns::Manner;
 use xsk_umem::{Frames, OutOfMemory, PacketList};
 use xsk_workers::{Outcome, forward};
 
@@ -86,32 +84,34 @@ impl Leaves for ThreadRun {
 }
 
 /// Runs the lists of all ports on threads under the programs' rules, with the wire. Applications change no item.
-#[allow(clippy::too_many_arguments)]
 pub(crate) fn forward_lists<R: Threads + Wait + Sync, G: Gate + Sync>(
     rt: &R,
     alloc: Global,
-    layout: &Layout,
+    terms: Terms<'_>,
     config: Config,
     frames: Frames,
-    programs: &ProgramList,
-    wire: Wire,
-    manner: Manner,
     lists: &[PacketList],
     gate: &G,
 ) -> Result<ThreadRun, OutOfMemory>
-    requires accepted { fault_of layout.now ≡ None }
-    requires config { config ≡ regular_of layout.now }
+    requires accepted { fault_of terms.layout.now ≡ None }
+    requires config { config ≡ regular_of terms.layout.now }
     requires regular { IsRegular config }
-    requires suits { suits_hands layout.now manner ≡ true }
-    requires frames { frames.items ≡ frames_of layout.now }
-    requires known { AreFrames (geometry_of layout.now) frames.items }
-    requires ports { length lists.now ≡ layout.now.ports }
+    requires suits { suits_hands terms.layout.now terms.manner ≡ true }
+    requires frames { frames.items ≡ frames_of terms.layout.now }
+    requires known { AreFrames (geometry_of terms.layout.now) frames.items }
+    requires ports { length lists.now ≡ terms.layout.now.ports }
     requires listed { lists.now ≡ map listed (lists_in lists.now) }
     requires short { All HasShortPackets lists.now }
-    ensures pairs { IfOk result (λ o. length o.sent ≡ pairs_in layout.now) }
+    ensures pairs { IfOk result (λ o. length o.sent ≡ pairs_in terms.entry.layout.now) }
     ensures short { IfOk result (λ o. All (λ (list : List (List ℕ)). All IsShort list) o.sent) }
-    ensures forwarded { IfOk result (HasForwarded layout.now.hands (setting_of layout.now programs.now wire (unmangled manner) (lists_in lists.now)) (frames_of layout.now)) }
+    ensures forwarded { IfOk result (HasShownUnder terms.entry (lists_in lists.now)) }
 {
+    let Terms {
+        layout,
+        programs,
+        wire,
+        ..
+    } = terms;
     let mut chain = chain_of(alloc, programs.as_slice(), layout.sockets, |rule: Rule| {
         XdpProgram::attach(
             rule,
@@ -120,7 +120,7 @@ pub(crate) fn forward_lists<R: Threads + Wait + Sync, G: Gate + Sync>(
     })?;
     let manner = Manner {
         mangle: None,
-        after: manner.after,
+        ..terms.manner
     };
     let outcome = forward(
         rt,

@@ -17,7 +17,7 @@ use Rattle.xsk_cli.proofs.rounds.run_lists.Goals as goal
 
 pub chain_of-requires-clause-sockets : goal.chain_of-requires-clause-sockets
 chain_of-requires-clause-sockets c =
-    let sockets = (fits c.args.layout.now c.requires.accepted).sockets in
+    let sockets = (fits c.args.terms.layout.now c.requires.accepted).sockets in
     record { some = omega (arith, sockets); few = omega (arith, sockets) }
 
 pub returns-in_err-sent-clause-failed : goal.returns-in_err-sent-clause-failed
@@ -25,41 +25,41 @@ returns-in_err-sent-clause-failed c =
     let error = c.in_err-sent.field-0.0 in
     let gives = c.from_residual-in_err-sent.ensures in
     let is : c.from_residual-in_err-sent.result ≡ Err (sim_failure error) = search (rules, gives) in
-    subst (λ r. IfErr r (FailsRunning c.args.layout.now c.args.programs.now c.args.wire c.args.manner c.args.order c.args.telling (lists_in c.args.lists.now))) (sym is)
-    (failed_under _ c.in_ok-chain.chain c.args.layout.now c.args.programs.now c.args.wire c.args.manner c.args.order c.in_ok-config.config c.args.lists.now c.in_ok-config.frames.items (lists_in c.args.lists.now)
-    c.in_ok-config.ensures.config c.requires.listed c.in_ok-config.ensures.frames (c.in_ok-chain.ensures.rules ∙ ap (rules_by c.args.layout.now.sockets) c.as_slice.ensures.value)
-    _ c.args.telling error (unasked c.args.telling.why c.if-not-telling-2.true) (λ round stalls. c.in_err-sent.ensures.stalled round (ap Err stalls)))
+    subst (λ r. IfErr r (FailsRunning c.args.terms.layout.now c.args.terms.programs.now c.args.terms.wire c.args.terms.manner c.args.terms.order c.args.terms.telling (lists_in c.args.lists.now))) (sym is)
+    (failed_under _ c.in_ok-chain.chain c.args.terms.layout.now c.args.terms.programs.now c.args.terms.wire c.args.terms.manner c.args.terms.order c.in_ok-config.config c.args.lists.now c.in_ok-config.frames.items (lists_in c.args.lists.now)
+    c.in_ok-config.ensures.config c.requires.listed c.in_ok-config.ensures.frames (c.in_ok-chain.ensures.rules ∙ ap (rules_by c.args.terms.layout.now.sockets) c.as_slice.ensures.value)
+    _ c.args.terms.telling error (unasked c.args.terms.telling.why c.if-not-telling-2.true) (λ round stalls. c.in_err-sent.ensures.stalled round (ap Err stalls)))
 
 pub returns-then-not-telling-2-clause-ended : goal.returns-then-not-telling-2-clause-ended
 returns-then-not-telling-2-clause-ended c =
-    let layout = c.args.layout.now in
+    let layout = c.args.terms.layout.now in
     let left = c.in_ok-sent.sent in
     let ended = c.in_ok-sent.ensures.ended in
     let run = ended.0 in
     let is = ended.2 in
     let text = c.in_ok-text.ensures ∙ ap (report_text c.in_ok-shared.shared) c.figures.ensures ∙ ap (λ (k : Config). report_text k left.figures) (c.in_ok-shared.ensures ∙ c.in_ok-config.ensures.config) ∙ ap (report_text (regular_of layout)) (sym is.figures) in (
       run,
-      ended_under _ c.in_ok-chain.chain layout c.args.programs.now c.args.wire c.args.manner c.args.order c.in_ok-config.config c.args.lists.now c.in_ok-config.frames.items (lists_in c.args.lists.now)
+      ended_under _ c.in_ok-chain.chain layout c.args.terms.programs.now c.args.terms.wire c.args.terms.manner c.args.terms.order c.in_ok-config.config c.args.lists.now c.in_ok-config.frames.items (lists_in c.args.lists.now)
           c.in_ok-config.ensures.config c.requires.listed c.in_ok-config.ensures.frames (c.in_ok-chain.ensures.rules ∙ ap (rules_by layout.sockets) c.as_slice.ensures.value)
           _ run ended.1,
       is,
-      subst (λ (asked : Bool). c.in_ok-text.text.items ≡ report_text (regular_of layout) run.figures ++ (if asked then journal_of run.pairs run.log else [])) (sym (unasked c.args.telling.journal c.if-not-telling.true)) (text ∙ sym (append-nil _)),
+      subst (λ (asked : Bool). c.in_ok-text.text.items ≡ report_text (regular_of layout) run.figures ++ (if asked then journal_of run.pairs run.log else [])) (sym (unasked c.args.terms.telling.journal c.if-not-telling.true)) (text ∙ sym (append-nil _)),
     )
 
 pub returns-in_err-text-in-Ok-clause-failed : goal.returns-in_err-text-in-Ok-clause-failed
 returns-in_err-text-in-Ok-clause-failed c =
     let gives = c.from_residual-in_err-text-in-Ok.ensures in
     let is : c.from_residual-in_err-text-in-Ok.result ≡ Err NoMemory = search (rules, gives) in
-    subst (λ r. IfErr r (FailsRunning c.args.layout.now c.args.programs.now c.args.wire c.args.manner c.args.order c.args.telling (lists_in c.args.lists.now))) (sym is) tt
+    subst (λ r. IfErr r (FailsRunning c.args.terms.layout.now c.args.terms.programs.now c.args.terms.wire c.args.terms.manner c.args.terms.order c.args.terms.telling (lists_in c.args.lists.now))) (sym is) tt
 
 pub returns-in-Ok-clause-ended : goal.returns-in-Ok-clause-ended
 returns-in-Ok-clause-ended c =
-    let layout = c.args.layout.now in
+    let layout = c.args.terms.layout.now in
     let run = c.in-Ok.run' in
     let same = c.into_sent.ensures.sent in
-    let text = c.in_ok-text-in-Ok.ensures ∙ ap (λ (k : Config). report_text k run.figures ++ (if c.args.telling.journal then journal_of run.pairs run.log else [])) (c.in_ok-shared.ensures ∙ c.in_ok-config.ensures.config) in (
+    let text = c.in_ok-text-in-Ok.ensures ∙ ap (λ (k : Config). report_text k run.figures ++ (if c.args.terms.telling.journal then journal_of run.pairs run.log else [])) (c.in_ok-shared.ensures ∙ c.in_ok-config.ensures.config) in (
       run,
-      ended_under _ c.in_ok-chain.chain layout c.args.programs.now c.args.wire c.args.manner c.args.order c.in_ok-config.config c.args.lists.now c.in_ok-config.frames.items (lists_in c.args.lists.now)
+      ended_under _ c.in_ok-chain.chain layout c.args.terms.programs.now c.args.terms.wire c.args.terms.manner c.args.terms.order c.in_ok-config.config c.args.lists.now c.in_ok-config.frames.items (lists_in c.args.lists.now)
           c.in_ok-config.ensures.config c.requires.listed c.in_ok-config.ensures.frames (c.in_ok-chain.ensures.rules ∙ ap (rules_by layout.sockets) c.as_slice.ensures.value)
           _ run c.in-Ok.ensures.ended,
       record { pairs = sym c.into_sent.ensures.pairs; lists = ap (λ (s : SentShown). s.lists) (sym same); figures = ap (λ (s : SentShown). s.figures) (sym same) },
@@ -88,7 +88,7 @@ returns-in-Err-Stalled-clause-failed c =
     let object = c.in-Err-Stalled.object in
     let counters = c.in-Err-Stalled.counters in
     let told : c.in-Err-Stalled.field-0 ≡ StalledOn round object counters = search rules in
-    explained_under _ c.in_ok-chain.chain c.args.layout.now c.args.programs.now c.args.wire c.args.manner c.args.order c.in_ok-config.config c.args.lists.now c.in_ok-config.frames.items (lists_in c.args.lists.now)
-    c.in_ok-config.ensures.config c.requires.listed c.in_ok-config.ensures.frames (c.in_ok-chain.ensures.rules ∙ ap (rules_by c.args.layout.now.sockets) c.as_slice.ensures.value)
-    _ c.args.telling round object counters.items c.explain.result (c.in-Err-Stalled.ensures.stalled round object counters (ap Err told))
-    (subst (λ (ks : List DriverCounters). IsExplained c.args.telling round object ks c.explain.result) c.as_slice-in-Err-Stalled.ensures.value c.explain.ensures)
+    explained_under _ c.in_ok-chain.chain c.args.terms.layout.now c.args.terms.programs.now c.args.terms.wire c.args.terms.manner c.args.terms.order c.in_ok-config.config c.args.lists.now c.in_ok-config.frames.items (lists_in c.args.lists.now)
+    c.in_ok-config.ensures.config c.requires.listed c.in_ok-config.ensures.frames (c.in_ok-chain.ensures.rules ∙ ap (rules_by c.args.terms.layout.now.sockets) c.as_slice.ensures.value)
+    _ c.args.terms.telling round object counters.items c.explain.result (c.in-Err-Stalled.ensures.stalled round object counters (ap Err told))
+    (subst (λ (ks : List DriverCounters). IsExplained c.args.terms.telling round object ks c.explain.result) c.as_slice-in-Err-Stalled.ensures.value c.explain.ensures)

@@ -14,25 +14,25 @@ use Rattle.xsk_cli.proofs.thread_run.forward_lists.Goals as goal
 
 pub chain_of-requires-clause-sockets : goal.chain_of-requires-clause-sockets
 chain_of-requires-clause-sockets g c =
-    let sockets = (fits c.args.layout.now c.requires.accepted).sockets in
+    let sockets = (fits c.args.terms.layout.now c.requires.accepted).sockets in
     record { some = omega (arith, sockets); few = omega (arith, sockets) }
 
 pub forward-requires-clause-suit : goal.forward-requires-clause-suit
 forward-requires-clause-suit g c κs within =
-    subst (λ (k : Config). SuitHands c.args.layout.now.hands k) (sym c.requires.config) (hands_suit c.args.layout.now c.args.manner c.requires.suits)
+    subst (λ (k : Config). SuitHands c.args.terms.layout.now.hands k) (sym c.requires.config) (hands_suit c.args.terms.layout.now c.args.terms.manner c.requires.suits)
 
 pub forward-requires-clause-hands : goal.forward-requires-clause-hands
-forward-requires-clause-hands g c κs within = (fits c.args.layout.now c.requires.accepted).hands
+forward-requires-clause-hands g c κs within = (fits c.args.terms.layout.now c.requires.accepted).hands
 
 pub returns-clause-pairs : goal.returns-clause-pairs
-returns-clause-pairs g c = c.in_ok-outcome.ensures.pairs ∙ ap (λ (k : Config). length k.pairs) c.requires.config ∙ pairs_are c.args.layout.now
+returns-clause-pairs g c = c.in_ok-outcome.ensures.pairs ∙ ap (λ (k : Config). length k.pairs) c.requires.config ∙ pairs_are c.args.terms.layout.now
 
 pub returns-clause-forwarded : goal.returns-clause-forwarded
 returns-clause-forwarded g c =
-    let are : rules_of c.in_ok-chain.chain ≡ rules_by c.args.layout.now.sockets c.args.programs.now = c.in_ok-chain.ensures.rules ∙ ap (rules_by c.args.layout.now.sockets) c.as_slice.ensures.value in
-    forwarded_as c.args.layout.now c.args.programs.now c.args.wire (unmangled c.args.manner) c.args.config c.args.lists.now c.args.frames.items (lists_in c.args.lists.now) c.in_ok-outcome.outcome
+    let are : rules_of c.in_ok-chain.chain ≡ rules_by c.args.terms.layout.now.sockets c.args.terms.programs.now = c.in_ok-chain.ensures.rules ∙ ap (rules_by c.args.terms.layout.now.sockets) c.as_slice.ensures.value in
+    forwarded_as c.args.terms.layout.now c.args.terms.programs.now c.args.terms.wire (unmangled c.args.terms.manner) c.args.config c.args.lists.now c.args.frames.items (lists_in c.args.lists.now) c.in_ok-outcome.outcome
     c.requires.config c.requires.listed c.requires.frames (rules_of c.in_ok-chain.chain)
-    are (c.in_ok-outcome.ensures.forwarded (subst (λ (rs : List Rule). are_exact rs ≡ true) (sym are) (are_exact_by c.args.layout.now.sockets c.args.programs.now)))
+    are (c.in_ok-outcome.ensures.forwarded (subst (λ (rs : List Rule). are_exact rs ≡ true) (sym are) (are_exact_by c.args.terms.layout.now.sockets c.args.terms.programs.now)))
 
 pub returns-clause-short : goal.returns-clause-short
 returns-clause-short g c = c.in_ok-outcome.ensures.short
